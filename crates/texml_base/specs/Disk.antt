@@ -1,0 +1,27 @@
+-- What an open file of the real folder may still give.
+use Rattle.std.specs.Prelude.{ℕ, List, [], false, None, Some}
+use Rattle.std.specs.declared.option.Option.{Option}
+use Rattle.texml_base.specs.Outside.{Shelf}
+use Rattle.texml_base.specs.Opened.{ids_of, held}
+use Rattle.texml_base.specs.declared.opened.Opened.{Opened}
+use Rattle.texml_base.specs.declared.disk.DiskFile.{DiskFile}
+
+abbrev pub budget_of : {F : Type 0} → Option (DiskFile F) → ℕ
+budget_of None = 0
+budget_of (Some f) = f.budget
+
+-- a folder that tells nothing, with these ids and their numbers
+abbrev pub untold : List ℕ → (ℕ → ℕ) → Shelf
+untold ids number = record {
+  tells = false;
+  contents = λ _. None;
+  ids = ids;
+  given = λ _. [];
+  left = λ _. [];
+  number = number;
+  total = 0;
+}
+
+-- what open files of the real folder stand for
+abbrev pub disk_shelf : {F : Type 0} → List (Opened (DiskFile F)) → Shelf
+disk_shelf opened = untold (ids_of opened) (λ id. budget_of (held opened id))

@@ -1,0 +1,25 @@
+//! What a run sees of the outside: files that are opened by name and read in pieces, and sinks that take bytes.
+//!
+//! The contract in a sentence: a trait says what a folder of files or a sink stands for and what each call does to that,
+//! an error comes only where the object's own count of faults rose, and each implementation here is proved against it.
+//! It stands on std alone.
+#![tactic(auto)]
+
+mod disk;
+mod faults;
+mod files;
+mod memory_files;
+mod memory_sinks;
+mod named;
+mod opened;
+mod reading;
+mod sink;
+
+pub use disk::DiskFiles;
+pub use files::{Files, Trouble};
+pub use memory_files::{CalmFiles, MemoryFiles};
+pub use memory_sinks::{CalmSink, MemorySink};
+pub use sink::{Sink, SinkFail, StreamSink};
+
+#[cfg(test)]
+mod tests;
