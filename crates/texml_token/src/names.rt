@@ -1,7 +1,7 @@
 //! The table of names.
 
 ghost use Rattle.std.specs.Prelude.{◌≡◌, [], ◌+◌, ◌≤◌, length, IfOk, OnOk, OnErr};
-ghost use Rattle.std.specs.List.{All, position_or_len};
+ghost use Rattle.std.specs.List.{All, position};
 ghost use Rattle.std.specs.Char.{IsScalar};
 ghost use Rattle.texml_token.specs.Token.{text_eq};
 ghost use Rattle.texml_token.specs.Numbers.{text_at, number_of, Numbered, TextsAreScalar, Extends, with_text};
@@ -57,11 +57,11 @@ impl Names {
         ensures numbered { OnOk result (Numbered self.new) }
         ensures err { OnErr result (self.new ≡ self.old) }
     {
-        let at = position(&self.texts, text);
-        if at == self.texts.len() {
-            self.texts.push(text.clone()?)?;
+        if let Some(at) = position(&self.texts, text) {
+            return Ok(Name(at + 1));
         }
-        Ok(Name(at + 1))
+        self.texts.push(text.clone()?)?;
+        Ok(Name(self.texts.len()))
     }
 
     /// The text of a name that was given, which has characters alone. The fixed `\relax` has the text
@@ -88,14 +88,9 @@ impl Names {
     }
 }
 
-// The place of a text, or the length where it isn't there.
-fn position(texts: &[Line], text: &Line) -> usize
-    ensures { result ≡ position_or_len (text_eq text.now) texts.now }
+// The place of a text, if it is there.
+fn position(texts: &[Line], text: &Line) -> Option<usize>
+    ensures { result ≡ position (text_eq text.now) texts.now }
 {
-    for at in 0..texts.len() {
-        if texts[at] == *text {
-            return at;
-        }
-    }
-    texts.len()
+    texts.iter().position(|known| known == text)
 }

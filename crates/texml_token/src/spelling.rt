@@ -1,9 +1,9 @@
 //! How tokens are written as characters.
 
-ghost use Rattle.std.specs.Prelude.{◌≡◌, ◌++◌, length, encode_utf8_all, OnOk, OnErr};
-ghost use Rattle.std.specs.List.{All, flat_map};
-ghost use Rattle.std.specs.Char.{IsScalar, encode_utf8};
-ghost use Rattle.texml_token.specs.Spelling.{spelled, shown, spelled_name, escape_codes, shown_code, shown_name, shown_token};
+ghost use Rattle.std.specs.Prelude.{◌≡◌, [], ◌∷◌, ◌++◌, if◌then◌else◌, length, encode_utf8_all, OnOk, OnErr};
+ghost use Rattle.std.specs.List.{All};
+ghost use Rattle.std.specs.Char.{IsScalar, encode_utf8, is_ascii_alphabetic};
+ghost use Rattle.texml_token.specs.Spelling.{escape_codes, name_end, shown, shown_code, shown_name, spelled, spelled_name};
 ghost use Rattle.texml_token.specs.Numbers.{token_at, tokens_at, TokenWithin, TokensWithin};
 
 use crate::bytes::Bytes;
@@ -132,7 +132,9 @@ fn show_name(text: &[u32], into: &mut Bytes) -> Result<(), AllocError>
 }
 
 // Whether a shown name has a space after it.
-fn ends_with_space(text: &[u32]) -> bool {
+fn ends_with_space(text: &[u32]) -> bool
+    ensures { name_end text.now ≡ (if result then 32 ∷ [] else []) }
+{
     match text {
         [] => false,
         [code] => is_letter(*code),
@@ -141,6 +143,8 @@ fn ends_with_space(text: &[u32]) -> bool {
 }
 
 // Whether a code is that of an ASCII letter.
-fn is_letter(code: u32) -> bool {
+fn is_letter(code: u32) -> bool
+    ensures { result ≡ is_ascii_alphabetic code }
+{
     (65..=90).contains(&code) || (97..=122).contains(&code)
 }

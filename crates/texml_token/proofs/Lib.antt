@@ -1,0 +1,3 @@
+pub mod Table
+pub mod Translation
+pub mod Same
