@@ -1,13 +1,14 @@
 -- The table of texts, and how it grows.
-use Rattle.std.proofs.Common.{◌≡◌, ◌+◌, ◌≤◌, ℕ, zero, suc, Bool, true, false, cond, List, [], ◌∷◌, ◌++◌, length, get_or, refl, sym, ap, ◌∙◌, arith, rules, length-append, inl, inr, Decides, true≢false, Some, slice_get}
-use Rattle.std.specs.List.{list_any, position_or_len}
-use Rattle.std.proofs.lemmas.Bool.{eq-eqb, ne_eqb, cases_lt}
+use Rattle.std.proofs.Common.{◌≡◌, ◌+◌, ◌≤◌, ◌<◌, ℕ, zero, suc, Bool, true, false, cond, List, [], ◌∷◌, ◌++◌, length, get_or, refl, sym, ap, ◌∙◌, arith, rules, length-append, inl, inr, Decides, true≢false, Some, None}
+use Rattle.std.specs.List.{list_any, position, position_or_len}
+use Rattle.std.proofs.lemmas.Bool.{eq-eqb, ne_eqb, cases_lt, lt-ltb}
 use Rattle.std.proofs.lemmas.Bool.Decides.{Decides-eqb}
 use Rattle.std.proofs.lemmas.Slice.Eq.{slice_eq-Decides}
 use Rattle.std.proofs.lemmas.List.{get_or_append_left, get_or_push}
-use Rattle.std.proofs.lemmas.List.Folds.{list_any_at, position_or_len_push}
-use Rattle.std.proofs.lemmas.List.Sums.{passes_at_first, prefix_len-le-length}
-use Rattle.std.proofs.lemmas.Grind.{elements}
+use Rattle.std.proofs.lemmas.List.Folds.{list_any_at, list_any_none, position_or_len_push}
+use Rattle.std.proofs.lemmas.List.Sums.{passes_at_first, fails_before_first, prefix_len-le-length}
+use Rattle.std.proofs.lemmas.List.Quantifiers.{position-Some}
+use Rattle.std.proofs.lemmas.Option.{none-some}
 use Rattle.texml_token.specs.Token.{text_eq}
 use Rattle.texml_token.specs.Numbers.{Table, text_at, number_of, with_text, Numbered, Extends}
 
@@ -98,7 +99,35 @@ numbered_with texts t g = by (list_any (text_eq t) texts) refl
     by true e = g
     by false e = pushed_numbered texts t g (absent texts t e)
 
-pub text_stored : (texts : Table) (at : ℕ) (k q r : List ℕ) → slice_get texts at ≡ Some k → text_eq q k ≡ true → q ≡ r → text_at texts (at + 1) ≡ r
-text_stored texts at k q r h e is =
-    let here : get_or texts at [] ≡ k = search (rules, elements) in
-    text_at_suc texts (at + 1) at (omega arith) ∙ (here ∙ (sym ((text-decides q k).0 e) ∙ is))
+-- a text that is there
+module _ (texts : Table) (q : List ℕ) (at : ℕ) (e : position (text_eq q) texts ≡ Some at) where
+  here : (at < length texts) × (text_eq q (get_or texts at []) ≡ true)
+  here = let p = position-Some (text_eq q) texts at [] e in (p.0, p.1)
+
+  pub text_found : text_at texts (at + 1) ≡ q
+  text_found = text_at_suc texts (at + 1) at (omega arith) ∙ sym ((text-decides q _).0 here.1)
+
+  pub with_found : texts ≡ with_text texts q
+  with_found = sym (ap (λ b. cond b texts (texts ++ q ∷ [])) (list_any_at (text_eq q) texts at [] here.0 here.1))
+
+-- a text that isn't there
+module _ (texts : Table) (q : List ℕ) (e : position (text_eq q) texts ≡ None) where
+  past : position_or_len (text_eq q) texts ≡ length texts
+  past = elim (cases_lt (position_or_len (text_eq q) texts) (length texts)) [
+    | inl lt ↦ absurd (none-some _ (sym e ∙ ap (λ b. cond b (Some (position_or_len (text_eq q) texts)) None) (lt-ltb _ _ lt)))
+    | inr le ↦ omega (arith, at_most texts q)
+  ]
+
+  none_same : list_any (text_eq q) texts ≡ false
+  none_same = list_any_none (text_eq q) texts (λ k d lt. fails_before_first (text_eq q) texts k d (omega (arith, past)))
+
+  pub with_missing : texts ++ q ∷ [] ≡ with_text texts q
+  with_missing = sym (ap (λ b. cond b texts (texts ++ q ∷ [])) none_same)
+
+  pub number_missing : suc (length texts) ≡ number_of (texts ++ q ∷ []) q
+  number_missing =
+      let none_between : cond (text_eq q q) 0 1 ≡ 0 = let choose : Bool → ℕ = λ b. cond b 0 1 in ap choose (text_same q) in
+      omega (arith, missing texts q q past, none_between)
+
+  pub numbered_missing : Numbered texts → Numbered (texts ++ q ∷ [])
+  numbered_missing g = pushed_numbered texts q g past

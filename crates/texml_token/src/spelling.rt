@@ -3,7 +3,7 @@
 ghost use Rattle.std.specs.Prelude.{◌≡◌, [], ◌∷◌, ◌++◌, if◌then◌else◌, length, encode_utf8_all, OnOk, OnErr};
 ghost use Rattle.std.specs.List.{All};
 ghost use Rattle.std.specs.Char.{IsScalar, encode_utf8, is_ascii_alphabetic};
-ghost use Rattle.texml_token.specs.Spelling.{escape_codes, name_end, shown, shown_code, shown_name, spelled, spelled_name};
+ghost use Rattle.texml_token.specs.Spelling.{escape_codes, name_end, shown, shown_code, shown_name, shown_token, spelled, spelled_name};
 ghost use Rattle.texml_token.specs.Numbers.{token_at, tokens_at, TokenWithin, TokensWithin};
 
 use crate::bytes::Bytes;
@@ -48,11 +48,7 @@ pub fn show(list: &Tokens, names: &Names, into: &mut Bytes) -> Result<(), AllocE
 {
     let mut text = into.aside();
     for token in list.as_slice() {
-        match *token {
-            Token::Char(code, _) => show_code(code, &mut text)?,
-            Token::Active(code) => show_code(code, &mut text)?,
-            Token::Named(name) => show_name(names.text(name), &mut text)?,
-        }
+        show_token(*token, names, &mut text)?;
     }
     into.extend(text.as_slice())
 }
@@ -99,6 +95,18 @@ fn spell_name(text: &[u32], escape: i32, into: &mut Bytes) -> Result<(), AllocEr
         push_code(into, *code)?;
     }
     Ok(())
+}
+
+// Appends how a token is shown.
+fn show_token(token: Token, names: &Names, into: &mut Bytes) -> Result<(), AllocError>
+    requires { TokenWithin (length names.now) token }
+    ensures { OnOk result (into.new ≡ into.old ++ encode_utf8_all (shown_token (token_at names.now token))) }
+{
+    match token {
+        Token::Char(code, _) => show_code(code, into),
+        Token::Active(code) => show_code(code, into),
+        Token::Named(name) => show_name(names.text(name), into),
+    }
 }
 
 // Appends how a character is shown.

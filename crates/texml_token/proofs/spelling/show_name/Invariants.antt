@@ -4,4 +4,4 @@ use Rattle.texml_token.specs.Spelling.{shown_code}
 use Rattle.texml_token.proofs.spelling.show_name.Given as goal
 
 abbrev pub invariant-loop-code : goal.invariant-loop-code
-invariant-loop-code l = l.into ≡ l.initial.into ++ encode_utf8_all (flat_map shown_code (take l.code-index l.text))
+invariant-loop-code l = l.into ≡ l.initial.into ++ flat_map (λ c. encode_utf8_all (shown_code c)) (take l.code-index l.text)
