@@ -1,0 +1,4 @@
+pub mod Table
+pub mod Translation
+pub mod Same
+pub mod Writing

@@ -1,0 +1,94 @@
+-- What tokens by number stand for, as the table grows.
+use Rattle.std.proofs.Common.{◌≡◌, ◌≤◌, ℕ, zero, suc, Bool, true, false, List, [], ◌∷◌, map, length, refl, sym, ap, ap₂, ◌∙◌, arith, nat_eq, true≢false, Decides, rules}
+use Rattle.std.specs.List.{All}
+use Rattle.std.proofs.lemmas.Bool.{eq-eqb, ne_eqb}
+use Rattle.std.proofs.lemmas.List.Elements.{All-head, All-tail}
+use Rattle.texml_token.specs.Token.{Token, Char, Active, Named, Fixed, text_eq, token_eq}
+use Rattle.texml_token.specs.Numbers.{Table, text_at, number_of, Numbered, Extends, name_at, token_at, tokens_at, TokenWithin, TokensWithin}
+use Rattle.texml_token.specs.declared.tokens.Token.{Token as TokenCode}
+use Rattle.texml_token.specs.declared.tokens.Token.TheVariants as tokens
+use Rattle.texml_token.specs.contracts.tokens.TokenPartialEq.TheImpl as tokens_eq
+use Rattle.texml_token.proofs.Table.{text-decides, text_at_number}
+use Rattle.texml_token.proofs.Same.{token-decides}
+
+-- a list of given things stands for the same
+pub map_same : {A B : Type 0} (f g : A → B) (P : A → Type 0) → ((x : A) → P x → f x ≡ g x) → (xs : List A) → All P xs → map f xs ≡ map g xs
+map_same f g P h [] k = refl
+map_same f g P h (x ∷ xs) k = ap₂ (λ a b. a ∷ b) (h x (All-head P x xs k)) (map_same f g P h xs (All-tail P x xs k))
+
+module _ (old new : Table) (g : Extends old new) where
+  pub name_kept : (n : ℕ) → n ≤ length old → name_at new n ≡ name_at old n
+  name_kept zero h = refl
+  name_kept (suc k) h = ap Named (g.texts (suc k) h)
+
+  pub token_kept : (t : TokenCode) → TokenWithin (length old) t → token_at new t ≡ token_at old t
+  token_kept (tokens.Char c category) h = refl
+  token_kept (tokens.Active c) h = refl
+  token_kept (tokens.Named name) h = name_kept name.0 h
+
+  pub tokens_kept : (ts : List TokenCode) → TokensWithin (length old) ts → tokens_at new ts ≡ tokens_at old ts
+  tokens_kept ts h = map_same (token_at new) (token_at old) (TokenWithin (length old)) token_kept ts h
+
+-- more names, and all are still given
+pub token_more : (m n : ℕ) → m ≤ n → (t : TokenCode) → TokenWithin m t → TokenWithin n t
+token_more m n le (tokens.Char c category) h = h
+token_more m n le (tokens.Active c) h = h
+token_more m n le (tokens.Named name) h = omega (arith, h)
+
+pub tokens_more : (m n : ℕ) → m ≤ n → (ts : List TokenCode) → TokensWithin m ts → TokensWithin n ts
+tokens_more m n le ts h = λ k d lt. token_more m n le _ (h k d lt)
+
+module _ (texts : Table) (g : Numbered texts) where
+  -- a given name has the number of a text exactly where it has the text
+  pub same_number : (n : ℕ) (q : List ℕ) → 1 ≤ n → n ≤ length texts → nat_eq n (number_of texts q) ≡ text_eq (text_at texts n) q
+  same_number n q one le = by (text_eq (text_at texts n) q) refl
+    where
+      by : (b : Bool) → text_eq (text_at texts n) q ≡ b → nat_eq n (number_of texts q) ≡ b
+      by true e = eq-eqb n (number_of texts q) (sym (ap (number_of texts) (sym ((text-decides (text_at texts n) q).0 e)) ∙ g.back n one le))
+      by false e = ne_eqb n (number_of texts q) (λ same. absurd (true≢false (sym ((text-decides (text_at texts n) q).1 (ap (text_at texts) same ∙ text_at_number texts q (omega (arith, same, le)))) ∙ e)))
+
+  text_same_number : (m n : ℕ) → 1 ≤ m → m ≤ length texts → 1 ≤ n → n ≤ length texts → text_eq (text_at texts m) (text_at texts n) ≡ nat_eq m n
+  text_same_number m n a b c d = sym (same_number m (text_at texts n) a b) ∙ ap (nat_eq m) (g.back n c d)
+
+  -- two given names are the same where their numbers are
+  pub names_agree : (m n : ℕ) → m ≤ length texts → n ≤ length texts → token_eq (name_at texts m) (name_at texts n) ≡ nat_eq m n
+  names_agree zero zero b d = refl
+  names_agree zero (suc n) b d = sym (ne_eqb 0 (suc n) (λ e. omega (arith, e)))
+  names_agree (suc m) zero b d = sym (ne_eqb (suc m) 0 (λ e. omega (arith, e)))
+  names_agree (suc m) (suc n) b d = text_same_number (suc m) (suc n) (omega arith) b (omega arith) d
+
+  char_name : (c k n : ℕ) → token_eq (Char c k) (name_at texts n) ≡ false
+  char_name c k zero = refl
+  char_name c k (suc n) = refl
+
+  name_char : (c k n : ℕ) → token_eq (name_at texts n) (Char c k) ≡ false
+  name_char c k zero = refl
+  name_char c k (suc n) = refl
+
+  active_name : (c n : ℕ) → token_eq (Active c) (name_at texts n) ≡ false
+  active_name c zero = refl
+  active_name c (suc n) = refl
+
+  name_active : (c n : ℕ) → token_eq (name_at texts n) (Active c) ≡ false
+  name_active c zero = refl
+  name_active c (suc n) = refl
+
+  -- and so for tokens
+  pub tokens_agree : (t u : TokenCode) → TokenWithin (length texts) t → TokenWithin (length texts) u → token_eq (token_at texts t) (token_at texts u) ≡ tokens_eq.eq-value.it t u
+  tokens_agree (tokens.Char c k) (tokens.Char d l) h i = search rules
+  tokens_agree (tokens.Char c k) (tokens.Active d) h i = refl
+  tokens_agree (tokens.Char c k) (tokens.Named n) h i = char_name c k n.0
+  tokens_agree (tokens.Active c) (tokens.Char d l) h i = refl
+  tokens_agree (tokens.Active c) (tokens.Active d) h i = search rules
+  tokens_agree (tokens.Active c) (tokens.Named n) h i = active_name c n.0
+  tokens_agree (tokens.Named n) (tokens.Char d l) h i = name_char d l n.0
+  tokens_agree (tokens.Named n) (tokens.Active d) h i = name_active d n.0
+  tokens_agree (tokens.Named m) (tokens.Named n) h i = names_agree m.0 n.0 h i
+
+  token_eq_itself : (t : TokenCode) → tokens_eq.eq-value.it t t ≡ true
+  token_eq_itself t = (token-decides t t).1 refl
+
+  -- given tokens that stand for the same are the same
+  pub token_same : (t u : TokenCode) → TokenWithin (length texts) t → TokenWithin (length texts) u → token_at texts t ≡ token_at texts u → t ≡ u
+  token_same t u h k e =
+      (token-decides t u).0 (sym (tokens_agree t u h k) ∙ (ap (token_eq (token_at texts t)) (sym e) ∙ (tokens_agree t t h h ∙ token_eq_itself t)))

@@ -1,0 +1,4 @@
+pub mod Token
+pub mod Spelling
+pub mod Numbers
+pub mod Shared

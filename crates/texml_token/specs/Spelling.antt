@@ -1,0 +1,51 @@
+-- How tokens are written as characters: spelled, as by \string, or shown, as on the terminal.
+use Rattle.std.specs.Prelude.{ℕ, ℤ, pos, negsuc, ◌+◌, List, [], ◌∷◌, ◌++◌, nat_eq, nat_lt, if◌then◌else◌}
+use Rattle.std.specs.List.{flat_map}
+use Rattle.std.specs.Char.{is_ascii_alphabetic}
+use lib.Utf8.{scalar}
+use Rattle.texml_token.specs.Token.{Token, Char, Active, Named, Fixed, relax}
+
+-- the letters of `csname` and of `endcsname`
+abbrev pub csname : List ℕ
+csname = 99 ∷ 115 ∷ 110 ∷ 97 ∷ 109 ∷ 101 ∷ []
+
+abbrev pub endcsname : List ℕ
+endcsname = 101 ∷ 110 ∷ 100 ∷ 99 ∷ 115 ∷ 110 ∷ 97 ∷ 109 ∷ 101 ∷ []
+
+-- the escape character, which is none where the escape is no character's code
+abbrev pub escape_codes : ℤ → List ℕ
+escape_codes (pos c) = if scalar c then c ∷ [] else []
+escape_codes (negsuc c) = []
+
+-- a name with the escape character before it. The empty name is \csname\endcsname
+abbrev pub spelled_name : ℤ → List ℕ → List ℕ
+spelled_name escape [] = escape_codes escape ++ csname ++ escape_codes escape ++ endcsname
+spelled_name escape (c ∷ cs) = escape_codes escape ++ c ∷ cs
+
+abbrev pub spelled : ℤ → Token → List ℕ
+spelled escape (Char c category) = c ∷ []
+spelled escape (Active c) = c ∷ []
+spelled escape (Named text) = spelled_name escape text
+spelled escape Fixed = spelled_name escape relax
+
+-- a character itself, but ^^@ to ^^_ for the codes below 32, and ^^? for 127
+abbrev pub shown_code : ℕ → List ℕ
+shown_code c = if nat_lt c 32 then 94 ∷ 94 ∷ (c + 64) ∷ [] else (if nat_eq c 127 then 94 ∷ 94 ∷ 63 ∷ [] else c ∷ [])
+
+-- the space after a shown name: none after the empty name, or after one character that is no letter
+abbrev pub name_end : List ℕ → List ℕ
+name_end [] = []
+name_end (c ∷ []) = if is_ascii_alphabetic c then 32 ∷ [] else []
+name_end (c ∷ d ∷ cs) = 32 ∷ []
+
+abbrev pub shown_name : List ℕ → List ℕ
+shown_name text = 92 ∷ flat_map shown_code text ++ name_end text
+
+abbrev pub shown_token : Token → List ℕ
+shown_token (Char c category) = shown_code c
+shown_token (Active c) = shown_code c
+shown_token (Named text) = shown_name text
+shown_token Fixed = shown_name relax
+
+abbrev pub shown : List Token → List ℕ
+shown = flat_map shown_token

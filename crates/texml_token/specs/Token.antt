@@ -1,0 +1,35 @@
+-- Tokens (The TeXbook, chapter 7). A name is its text.
+use Rattle.std.specs.Prelude.{ℕ, List, [], ◌∷◌, Bool, true, false, nat_eq, ◌&&◌}
+use Rattle.std.specs.Cmp.Lexicographic.{pointwise}
+
+-- a character with its category, an active character, a name, or the fixed \relax, which is no name
+pub data Token : Type 0 where
+  Char : ℕ → ℕ → Token
+  Active : ℕ → Token
+  Named : List ℕ → Token
+  Fixed : Token
+
+-- the text of the fixed \relax
+abbrev pub relax : List ℕ
+relax = 114 ∷ 101 ∷ 108 ∷ 97 ∷ 120 ∷ []
+
+abbrev pub text_eq : List ℕ → List ℕ → Bool
+text_eq = pointwise nat_eq
+
+abbrev pub token_eq : Token → Token → Bool
+token_eq (Char c k) (Char d l) = nat_eq c d && nat_eq k l
+token_eq (Char c k) (Active d) = false
+token_eq (Char c k) (Named t) = false
+token_eq (Char c k) Fixed = false
+token_eq (Active c) (Char d l) = false
+token_eq (Active c) (Active d) = nat_eq c d
+token_eq (Active c) (Named t) = false
+token_eq (Active c) Fixed = false
+token_eq (Named s) (Char d l) = false
+token_eq (Named s) (Active d) = false
+token_eq (Named s) (Named t) = text_eq s t
+token_eq (Named s) Fixed = false
+token_eq Fixed (Char d l) = false
+token_eq Fixed (Active d) = false
+token_eq Fixed (Named t) = false
+token_eq Fixed Fixed = true

@@ -1,0 +1,112 @@
+//! Tokens, and lists of them whose parts are shared.
+
+ghost use Rattle.std.specs.Prelude.{◌≡◌, [], ◌∷◌, ◌++◌, OnOk, OnErr};
+
+use std::alloc::{AllocError, Global};
+use std::marker::Model;
+use std::rc::Rc;
+
+/// A name, by its number in the table of names. Number 0 is the fixed `\relax`.
+#[derive(Clone, Copy, Debug, PartialEq, Eq, PartialOrd, Ord, Hash)]
+pub struct Name(pub usize);
+
+/// A token: a character with its category, an active character, or a name.
+#[derive(Clone, Copy, Debug, PartialEq, Eq, PartialOrd, Ord, Hash)]
+pub enum Token {
+    Char(u32, u8),
+    Active(u32),
+    Named(Name),
+}
+
+/// A list of tokens whose parts are shared by its clones.
+#[derive(Debug, Drop)]
+pub struct Tokens {
+    alloc: Global,
+    shared: Option<Rc<Vec<Token>>>,
+}
+
+impl Model for Tokens {
+    ghost use Rattle.std.specs.Prelude.{List};
+    ghost use Rattle.texml_token.specs.declared.tokens.Token.{Token};
+
+    ghost Value = { List Token };
+
+    ghost use Rattle.texml_token.specs.Shared.{shared_items};
+
+    ghost view = { λ t. shared_items t.shared };
+}
+
+impl Tokens {
+    /// The empty list, which takes no memory.
+    pub fn new(alloc: Global) -> Tokens
+        ensures { result ≡ [] }
+    {
+        Tokens {
+            alloc,
+            shared: None,
+        }
+    }
+
+    /// Appends a token. Parts that a clone shares are copied first, so that no other list changes.
+    ///
+    /// # Errors
+    ///
+    /// `AllocError` where there is no memory. The list is then as before.
+    pub fn push(&mut self, token: Token) -> Result<(), AllocError>
+        ensures ok { OnOk result (self.new ≡ self.old ++ token ∷ []) }
+        ensures err { OnErr result (self.new ≡ self.old) }
+    {
+        match &mut self.shared {
+            None => {
+                let mut items = Vec::new(self.alloc);
+                items.push(token)?;
+                self.shared = Some(Rc::new(self.alloc, items)?);
+            }
+            Some(shared) => {
+                Rc::make_mut(shared)?.push(token)?;
+            }
+        }
+        Ok(())
+    }
+
+    /// The tokens, the first in front.
+    pub fn as_slice(&self) -> &[Token]
+        ensures { result.now ≡ self.now }
+    {
+        match &self.shared {
+            None => &[],
+            Some(shared) => shared.as_slice(),
+        }
+    }
+}
+
+impl Clone for Tokens {
+    ghost is_clone = { λ list copy. copy ≡ list };
+
+    fn clone(&self) -> Result<Tokens, AllocError> {
+        Ok(Tokens {
+            alloc: self.alloc,
+            shared: self.shared.clone()?,
+        })
+    }
+}
+
+impl PartialEq for Tokens {
+    ghost eq = { λ x y. pointwise ⟦<Token as PartialEq>⟧.eq x y };
+
+    ghost use Rattle.std.specs.Cmp.Lexicographic.{pointwise, lists_per};
+    ghost use Rattle.texml_token.specs.contracts.tokens.TokenPartialEq.TheImpl.Laws.{laws-law};
+
+    ghost laws = { lists_per laws-law };
+
+    fn eq(&self, other: &Tokens) -> bool {
+        self.as_slice() == other.as_slice()
+    }
+}
+
+impl Eq for Tokens {
+    ghost use Rattle.std.specs.Cmp.Lexicographic.{lists_equiv};
+    ghost use Rattle.texml_token.specs.contracts.tokens.TokenEq.TheImpl.Laws.{laws-law};
+
+    ghost laws = { lists_equiv laws-law };
+}
