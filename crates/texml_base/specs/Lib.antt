@@ -6,3 +6,4 @@ pub mod Named
 pub mod Disk
 pub mod Rising
 pub mod MemorySinks
+pub mod Counters

@@ -1,10 +1,11 @@
-//! What a run sees of the outside: files that are opened by name and read in pieces, and sinks that take bytes.
+//! What a run sees of the outside: files that are opened by name and read in pieces, and sinks that take bytes; and two counters.
 //!
 //! The contract in a sentence: a trait says what a folder of files or a sink stands for and what each call does to that,
 //! an error comes only where the object's own count of faults rose, and each implementation here is proved against it.
 //! It stands on std alone.
 #![tactic(auto)]
 
+mod counters;
 mod disk;
 mod faults;
 mod files;
@@ -15,6 +16,7 @@ mod opened;
 mod reading;
 mod sink;
 
+pub use counters::{Budget, Steps};
 pub use disk::DiskFiles;
 pub use files::{Files, Trouble};
 pub use memory_files::{CalmFiles, MemoryFiles};

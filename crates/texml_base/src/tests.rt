@@ -71,3 +71,16 @@ fn sinks_take_what_fits(rt: HostRuntime) -> Result<(), Fail> {
     assert_eq!(rt; stream.write(b"abc"), Ok(()));
     Ok(())
 }
+
+#[test]
+fn counters_count(rt: HostRuntime) {
+    let mut budget = Budget::new(2);
+    for may in [true, true, false, false] {
+        assert_eq!(rt; budget.begin(), may);
+    }
+    assert_eq!(rt; budget.begun(), 2);
+    let mut steps = Steps::new();
+    steps.tick();
+    steps.tick();
+    assert_eq!(rt; steps.taken(), 2);
+}

@@ -1,0 +1,12 @@
+-- An allowance that is used up.
+use Rattle.std.specs.Prelude.{◌≡◌, ℕ, ◌+◌, ◌<◌, Bool, true, false}
+
+-- how many may be begun, and how many were
+pub record Allowance : Type 0 where
+  pub limit : ℕ
+  pub begun : ℕ
+
+-- one more was begun; or the limit is reached, and nothing changed
+abbrev pub Begins : Allowance → Bool → Allowance → Type 0
+Begins old true new = (old.begun < old.limit) × (new ≡ record { limit = old.limit; begun = old.begun + 1 })
+Begins old false new = (old.begun ≡ old.limit) × (new ≡ old)
