@@ -1,0 +1,21 @@
+//! A run of the converter, from the words of its command line to its status.
+//!
+//! The contract in a sentence: `run` ends with the status that the written rules give and writes exactly the HTML that
+//! they give, or ends with a failure that the files or the sink had in this call, or with want of memory, and then has
+//! written what each answer allows. It stands on texml_base for the outside and on texml_token for bytes and faults.
+#![tactic(auto)]
+
+mod lines;
+mod material;
+mod mouth;
+mod page;
+mod source;
+mod status;
+mod top;
+mod words;
+
+pub use status::Status;
+pub use top::run;
+
+#[cfg(test)]
+mod tests;

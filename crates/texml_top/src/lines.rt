@@ -1,0 +1,79 @@
+// The lines of a text.
+ghost use Rattle.std.specs.Prelude.{◌≡◌, ◌∷◌, ◌<◌, ◌==◌, [], length, position, MatchOption, IfOk};
+ghost use Rattle.texml_top.specs.Lines.{lines, loaded, trim_end, without_mark};
+ghost use Rattle.std.specs.Str.{chars};
+ghost use Rattle.std.specs.Str.Lines.{strip_carriage_return};
+
+use std::alloc::{AllocError, Global};
+
+// The first line of a text, and what follows it.
+#[tactic(auto, using(crate::proofs::FirstLine::first_line))]
+pub fn next_line(text: &[char]) -> Option<(&[char], &[char])>
+    ensures line { MatchOption result (lines text.now ≡ []) (λ p. lines text.now ≡ p.0.now ∷ lines p.1.now) }
+    ensures falls { MatchOption result (text.now ≡ []) (λ p. length p.1.now < length text.now) }
+{
+    if text.is_empty() {
+        return None;
+    }
+    match feed_at(text) {
+        None => Some((text, &[])),
+        Some(end) => Some((without_return(&text[..end]), &text[end + 1..])),
+    }
+}
+
+// Where the first line feed stands.
+fn feed_at(text: &[char]) -> Option<usize>
+    ensures { result ≡ position (λ c. c == 10) text.now }
+{
+    text.iter().position(|c| *c == '\n')
+}
+
+// A line without the carriage return at its end, if it has one.
+fn without_return(line: &[char]) -> &[char]
+    ensures { result.now ≡ strip_carriage_return line.now }
+{
+    match line {
+        [front @ .., '\r'] => front,
+        _ => line,
+    }
+}
+
+// A line as it is read: without spaces at its end, and with a carriage return there.
+pub fn load(alloc: Global, line: &[char]) -> Result<Vec<char>, AllocError>
+    ensures { IfOk result (λ v. v.items ≡ loaded line.now) }
+{
+    let mut line = without_spaces(line).to_vec(alloc)?;
+    line.push('\r')?;
+    Ok(line)
+}
+
+#[tactic(auto, using(crate::proofs::FirstLine::trimmed))]
+fn without_spaces(line: &[char]) -> &[char]
+    ensures { result.now ≡ trim_end line.now }
+{
+    let mut end = line.len();
+    while end > 0 {
+        if line[end - 1] != ' ' {
+            return &line[..end];
+        }
+        end -= 1;
+    }
+    &[]
+}
+
+// The characters of a text.
+pub fn chars_of(alloc: Global, text: &str) -> Result<Vec<char>, AllocError>
+    ensures { IfOk result (λ v. v.items ≡ chars text.now) }
+{
+    text.chars().collect(alloc)
+}
+
+// The characters without a byte order mark at their start.
+pub fn drop_mark(text: &[char]) -> &[char]
+    ensures { result.now ≡ without_mark text.now }
+{
+    match text {
+        ['\u{feff}', rest @ ..] => rest,
+        _ => text,
+    }
+}

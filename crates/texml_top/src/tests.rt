@@ -1,0 +1,191 @@
+ghost use Rattle.std.specs.Prelude.{◌≡◌, ◌≢◌, ◌≤◌, [], map, string_bytes, IfOk};
+ghost use Rattle.texml_base.specs.Memory.{memory_shelf, calm_shelf};
+ghost use Rattle.texml_top.specs.Outcome.{outcome};
+
+use super::*;
+use std::alloc::{AllocError, Global};
+use std::test::Fail;
+use texml_base::{CalmFiles, CalmSink, MemoryFiles, MemorySink};
+
+const HEAD: &str =
+    "<!DOCTYPE html>\n<html><head><meta charset=\"utf-8\"><title>untitled</title></head><body><main id=\"x0\">";
+
+const TAIL: &str = "</main></body></html>\n";
+
+fn words_of(alloc: Global, texts: &[&str]) -> Result<Vec<String>, AllocError> {
+    let mut words = Vec::new(alloc);
+    for text in texts {
+        words.push(String::from_str(alloc, text)?)?;
+    }
+    Ok(words)
+}
+
+fn main_file(
+    alloc: Global,
+    text: &[u8],
+    piece: usize,
+    fail_call: u64,
+) -> Result<MemoryFiles, AllocError>
+    requires { 1 ≤ piece }
+    ensures { IfOk result (λ files. (memory_shelf files).ids ≡ []) }
+{
+    let mut files = MemoryFiles::new(alloc, piece, fail_call);
+    files.add(alloc, "main.tex", text)?;
+    Ok(files)
+}
+
+#[test]
+fn texts_are_paragraphs_or_their_first_fault(rt: HostRuntime) -> Result<(), Fail> {
+    let alloc = rt.alloc();
+    let rows: [(&[u8], u8, &str); 7] = [
+        (b"", 0, ""),
+        (b"Hello\nworld\n\nTwo\n", 0, "<p>Hello world</p><p>Two</p>"),
+        (b"a<b % c\n", 0, "<p>a&lt;b</p>"),
+        (b"a{b\n", 18, ""),
+        (b"a<b % c\n&\n", 18, ""),
+        (b"\xff\n", 20, ""),
+        (b"  x   y \r\n\n\n z", 0, "<p>x y</p><p>z</p>"),
+    ];
+    for (text, code, body) in rows {
+        let mut files = main_file(alloc, text, 3, 0)?;
+        let mut out = MemorySink::new(alloc, 1000, 0)?;
+        let mut notes = MemorySink::new(alloc, 10, 0)?;
+        let words = words_of(alloc, &["convert", "main.tex"])?;
+        match run(alloc, &words, &mut files, &mut out, &mut notes) {
+            Status::Done => {
+                assert_eq!(rt; code, 0);
+                let page = format!(in alloc; "{HEAD}{body}{TAIL}")?;
+                assert_eq!(rt; out.bytes(), page.as_bytes());
+            }
+            Status::Tex(fault) => {
+                assert_eq!(rt; fault.code, code);
+                assert_eq!(rt; fault.file.as_slice(), b"main.tex".as_slice());
+                assert_eq!(rt; out.bytes().len(), 0);
+            }
+            _ => assert!(rt; false),
+        }
+    }
+    Ok(())
+}
+
+#[test]
+fn words_that_are_no_command_line_are_usage(rt: HostRuntime) -> Result<(), Fail> {
+    let alloc = rt.alloc();
+    let rows: [(&[&str], u8); 9] = [
+        (&[], 1),
+        (&["frob", "a"], 1),
+        (&["--help"], 1),
+        (&["convert"], 2),
+        (&["convert", ""], 2),
+        (&["convert", "--help"], 2),
+        (&["convert", "a", "b"], 2),
+        (&["convert", "a", "--limit", "0"], 2),
+        (&["self", "1"], 2),
+    ];
+    for (texts, which) in rows {
+        // The first open or read would fail.
+        let mut files = main_file(alloc, b"x", 1, 1)?;
+        let mut out = MemorySink::new(alloc, 1000, 0)?;
+        let mut notes = MemorySink::new(alloc, 10, 0)?;
+        let words = words_of(alloc, texts)?;
+        match run(alloc, &words, &mut files, &mut out, &mut notes) {
+            Status::Usage(found) => assert_eq!(rt; found, which),
+            _ => assert!(rt; false),
+        }
+        assert_eq!(rt; out.bytes().len(), 0);
+    }
+    Ok(())
+}
+
+#[test]
+fn missing_file_is_a_fault_about_its_name(rt: HostRuntime) -> Result<(), Fail> {
+    let alloc = rt.alloc();
+    let mut files = main_file(alloc, b"x", 1, 0)?;
+    let mut out = MemorySink::new(alloc, 10, 0)?;
+    let mut notes = MemorySink::new(alloc, 10, 0)?;
+    let words = words_of(alloc, &["convert", "-"])?;
+    match run(alloc, &words, &mut files, &mut out, &mut notes) {
+        Status::Tex(fault) => {
+            assert_eq!(rt; fault.code, 19);
+            assert_eq!(rt; fault.file.as_slice(), b"-".as_slice());
+            assert_eq!(rt; fault.line, 0);
+            assert_eq!(rt; fault.about.as_slice(), b"-".as_slice());
+        }
+        _ => assert!(rt; false),
+    }
+    Ok(())
+}
+
+const TWO: &[u8] = b"Hello\nworld\n\nTwo\n";
+
+// The open, the 17 reads of a byte and the read of the end may fail: the twentieth call is never made.
+#[test]
+fn each_call_on_files_may_fail(rt: HostRuntime) -> Result<(), Fail> {
+    let alloc = rt.alloc();
+    for call in 1..21 {
+        let mut files = main_file(alloc, TWO, 1, call)?;
+        let mut out = MemorySink::new(alloc, 1000, 0)?;
+        let mut notes = MemorySink::new(alloc, 10, 0)?;
+        let words = words_of(alloc, &["convert", "main.tex"])?;
+        match run(alloc, &words, &mut files, &mut out, &mut notes) {
+            Status::ReadFault => {
+                assert!(rt; call < 20);
+                assert_eq!(rt; out.bytes().len(), 0);
+            }
+            Status::Done => assert_eq!(rt; call, 20),
+            _ => assert!(rt; false),
+        }
+    }
+    Ok(())
+}
+
+#[test]
+fn a_sink_takes_what_it_has_room_for(rt: HostRuntime) -> Result<(), Fail> {
+    let alloc = rt.alloc();
+    let page = format!(in alloc; "{HEAD}<p>Hello world</p><p>Two</p>{TAIL}")?;
+    let html = page.as_bytes();
+    for room in 0..html.len() + 1 {
+        let mut files = main_file(alloc, TWO, 4096, 0)?;
+        let mut out = MemorySink::new(alloc, room, 0)?;
+        let mut notes = MemorySink::new(alloc, 10, 0)?;
+        let words = words_of(alloc, &["convert", "main.tex"])?;
+        match run(alloc, &words, &mut files, &mut out, &mut notes) {
+            Status::WriteFault => assert!(rt; room < html.len()),
+            Status::Done => assert_eq!(rt; room, html.len()),
+            _ => assert!(rt; false),
+        }
+        assert_eq!(rt; out.bytes(), &html[..room]);
+    }
+    let mut files = main_file(alloc, TWO, 4096, 0)?;
+    let mut out = MemorySink::new(alloc, 1000, 1)?;
+    let mut notes = MemorySink::new(alloc, 10, 0)?;
+    let words = words_of(alloc, &["convert", "main.tex"])?;
+    match run(alloc, &words, &mut files, &mut out, &mut notes) {
+        Status::WriteFault => assert_eq!(rt; out.bytes().len(), 0),
+        _ => assert!(rt; false),
+    }
+    Ok(())
+}
+
+// Over files and sinks that never fail, the status is the defined one or want of memory.
+fn calm_status(alloc: Global, words: &[String], files: &mut CalmFiles) -> Status
+    requires { (calm_shelf files.old).ids ≡ [] }
+    ensures { result ≢ Status.NoMemory → result ≡ (outcome (map string_bytes words.now) (calm_shelf files.old).contents).status }
+{
+    let mut out = CalmSink::new();
+    let mut notes = CalmSink::new();
+    run(alloc, words, files, &mut out, &mut notes)
+}
+
+#[test]
+fn calm_files_and_sinks_give_the_defined_status(rt: HostRuntime) -> Result<(), Fail> {
+    let alloc = rt.alloc();
+    let mut files = CalmFiles::new(alloc, 5);
+    files.add(alloc, "main.tex", b"a&b\n")?;
+    let words = words_of(alloc, &["convert", "main.tex"])?;
+    match calm_status(alloc, &words, &mut files) {
+        Status::Tex(fault) => assert_eq!(rt; fault.code, 18),
+        _ => assert!(rt; false),
+    }
+    Ok(())
+}
