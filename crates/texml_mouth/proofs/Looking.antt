@@ -68,7 +68,21 @@ pub look-front : {A : Type 0} (cats : ℕ → ℕ) (empty : A) (step : ℕ → L
 look-front cats empty step [] = refl
 look-front cats empty step (c ∷ tail) = look_at_front cats empty step c tail
 
--- a text that is looked at as it was looked at stays as it is
+le_test : (b : Bool) (u v : List ℕ) (n : ℕ) → length u ≤ n → length v ≤ n → length (cond b u v) ≤ n
+le_test true u v n p q = p
+le_test false u v n p q = q
+
+settled_at-length : (cats : ℕ → ℕ) (c : ℕ) (tail : List ℕ) → length (settled cats (c ∷ tail)) ≤ 1 + length tail
+settled_at-length cats c [] = omega arith
+settled_at-length cats c (d ∷ []) = omega arith
+settled_at-length cats c (d ∷ x ∷ []) =
+    le_test (is_pair cats c d && nat_lt x 128) _ _ _ (omega (arith, settled_at-length cats (turned x) [])) (omega arith)
+settled_at-length cats c (d ∷ x ∷ y ∷ tail) =
+    le_test (is_pair cats c d && begins_hex (x ∷ y ∷ tail)) _ _ _
+        (omega (arith, settled_at-length cats (hex_code x y) tail))
+        (le_test (is_pair cats c d && nat_lt x 128) _ _ _ (omega (arith, settled_at-length cats (turned x) (y ∷ tail))) (omega arith))
+
+-- a text gets no longer as it is looked at
 pub settled-length : (cats : ℕ → ℕ) (text : List ℕ) → length (settled cats text) ≤ length text
 settled-length cats [] = omega arith
-settled-length cats (c ∷ tail) = ?
+settled-length cats (c ∷ tail) = omega (arith, settled_at-length cats c tail)

@@ -6,7 +6,7 @@
 //! that may not stand in a text. It stands on `texml_token`.
 #![tactic(auto)]
 
-ghost use Rattle.std.specs.Prelude.{◌≡◌, ℕ, ◌+◌, ◌<◌, ◌≤◌, List, [], ◌∷◌, length, drop, IsTrue, slice_index, Some, None, Ok, Err, MatchOption, IfSome, IfOk, OnOk, OnErr, option_to_list};
+ghost use Rattle.std.specs.Prelude.{◌≡◌, ℕ, ◌+◌, ◌<◌, ◌≤◌, List, [], ◌∷◌, ◌++◌, length, drop, IsTrue, slice_index, Some, None, Ok, Err, MatchOption, IfSome, IfOk, OnOk, OnErr, option_to_list};
 ghost use Rattle.std.specs.List.{All};
 ghost use Rattle.std.specs.Char.{IsScalar};
 ghost use Rattle.texml_token.specs.Numbers.{token_at, TokenWithin, Extends, Numbered, with_text};
@@ -18,7 +18,14 @@ ghost use Rattle.texml_mouth.specs.Seen.{Bitten, answer_at, table_behind, Answer
 
 use std::alloc::{AllocError, Global};
 use std::marker::Model;
-use texml_token::{Line, Name, Names, Token, category};
+use texml_token::category;
+use texml_token::{Line, Name, Names, Token};
+
+// The code of a space token.
+const SPACE: u32 = 32;
+
+// The name that an empty line gives.
+const PAR: [u32; 3] = [112, 97, 114];
 
 /// Where in a line a mouth is: at its start, behind a token, or behind a blank or a word.
 #[derive(Clone, Copy, Debug, PartialEq, Eq)]
@@ -96,12 +103,223 @@ impl Mouth {
         }
     }
 
+    /// The next token of the line, or None at its end. A name is given its number in `names`.
+    ///
+    /// The characters are looked at with the categories that `codes` has now, and no character behind
+    /// the token and the blanks before it is looked at, but for the one that ends a word (The TeXbook,
+    /// chapters 7 and 8).
+    ///
+    /// # Errors
+    ///
+    /// - `Invalid` with the code of a character of category 15, where it would begin a token.
+    /// - `NoMemory` where there is no memory for a name. The names are then as before.
+    ///
+    /// After an error the mouth stays as it is, and answers that error from then on.
+    pub fn next<C: Codes>(
+        &mut self,
+        alloc: Global,
+        codes: &C,
+        names: &mut Names,
+    ) -> Result<Option<Token>, MouthFault>
+        ensures bites { self.old.fault ≡ None → Bitten (bites (C.cats codes.now) self.old.spot) (answer_at names.new result) self.new.spot }
+        ensures fault { self.old.fault ≡ None → self.new.fault ≡ fault_after result }
+        ensures stays { IfSome self.old.fault (λ fault. (result ≡ Err fault) × (self.new ≡ self.old)) }
+
+        // Each token takes a character at least.
+        ensures lower { IfOk result (λ o. length self.new.spot.tail + length (option_to_list o) ≤ length self.old.spot.tail) }
+        ensures shorter { length self.new.spot.tail ≤ length self.old.spot.tail }
+
+        ensures names { names.new ≡ table_behind names.old (answer_at names.new result) }
+        ensures grows { Extends names.old names.new }
+        ensures numbered { Numbered names.new }
+        ensures given { AnswerWithin (length names.new) result }
+    {
+        if let Some(fault) = self.fault {
+            let _given = names.given();
+            return Err(fault);
+        }
+        match self.bite(alloc, codes, names) {
+            Ok(token) => {
+                let _given = names.given();
+                Ok(token)
+            }
+            Err(fault) => {
+                let _given = names.given();
+                self.fault = Some(fault);
+                Err(fault)
+            }
+        }
+    }
+
+    // The next token, where no fault is kept.
+    fn bite<C: Codes>(
+        &mut self,
+        alloc: Global,
+        codes: &C,
+        names: &mut Names,
+    ) -> Result<Option<Token>, MouthFault>
+        ensures bites { Bitten (bites (C.cats codes.now) self.old.spot) (answer_at names.new result) self.new.spot }
+        ensures fault { self.new.fault ≡ self.old.fault }
+        ensures lower { IfOk result (λ o. length self.new.spot.tail + length (option_to_list o) ≤ length self.old.spot.tail) }
+        ensures shorter { length self.new.spot.tail ≤ length self.old.spot.tail }
+        ensures names { names.new ≡ table_behind names.old (answer_at names.new result) }
+        ensures grows { Extends names.old names.new }
+        ensures given { AnswerWithin (length names.new) result }
+    {
+        while let Some(c) = self.take(codes) {
+            match codes.category(c) {
+                category::ESCAPE => return self.name(alloc, codes, names),
+                category::END_OF_LINE => return self.line_end(alloc, names),
+                category::IGNORED => {}
+                category::SPACE => {
+                    if self.state() == State::MidLine {
+                        self.go(State::SkippingBlanks);
+                        return Ok(Some(Token::Char(SPACE, category::SPACE)));
+                    }
+                }
+                category::ACTIVE => {
+                    self.go(State::MidLine);
+                    return Ok(Some(Token::Active(c)));
+                }
+                category::COMMENT => {
+                    self.skip();
+                    return Ok(None);
+                }
+                category::INVALID => return Err(MouthFault::Invalid(c)),
+                category => {
+                    self.go(State::MidLine);
+                    return Ok(Some(Token::Char(c, category)));
+                }
+            }
+        }
+        Ok(None)
+    }
+
+    // The name behind an escape character.
+    fn name<C: Codes>(
+        &mut self,
+        alloc: Global,
+        codes: &C,
+        names: &mut Names,
+    ) -> Result<Option<Token>, MouthFault>
+        ensures bites { Bitten (name (C.cats codes.now) self.old.spot.tail) (answer_at names.new result) self.new.spot }
+        ensures fault { self.new.fault ≡ self.old.fault }
+        ensures shorter { length self.new.spot.tail ≤ length self.old.spot.tail }
+        ensures names { names.new ≡ table_behind names.old (answer_at names.new result) }
+        ensures grows { Extends names.old names.new }
+        ensures given { AnswerWithin (length names.new) result }
+    {
+        let Some(c) = self.take(codes) else {
+            self.go(State::SkippingBlanks);
+            return Ok(Some(named(alloc, names, &[])?));
+        };
+        match codes.category(c) {
+            category::LETTER => {
+                let mut text = Line::from_slice(alloc, &[c])?;
+                self.take_letters(codes, &mut text)?;
+                self.go(State::SkippingBlanks);
+                Ok(Some(intern(names, &text)?))
+            }
+            category::SPACE => {
+                self.go(State::SkippingBlanks);
+                Ok(Some(named(alloc, names, &[c])?))
+            }
+            _ => {
+                self.go(State::MidLine);
+                Ok(Some(named(alloc, names, &[c])?))
+            }
+        }
+    }
+
+    // Appends the longest word at the front to a text.
+    fn take_letters<C: Codes>(&mut self, codes: &C, text: &mut Line) -> Result<(), AllocError>
+        requires { All IsScalar text.old }
+        ensures letters { OnOk result (text.new ≡ text.old ++ (word (C.cats codes.now) self.old.spot.tail).letters) }
+        ensures behind { OnOk result (self.new.spot.tail ≡ (word (C.cats codes.now) self.old.spot.tail).behind) }
+        ensures fault { self.new.fault ≡ self.old.fault }
+        ensures shorter { length self.new.spot.tail ≤ length self.old.spot.tail }
+        ensures scalars { All IsScalar text.new }
+    {
+        while let Some(c) = self.peek(codes) {
+            if codes.category(c) != category::LETTER {
+                break;
+            }
+            self.pass();
+            text.push(c)?;
+        }
+        Ok(())
+    }
+
+    // What the end of the line gives, behind which there is nothing.
+    fn line_end(&mut self, alloc: Global, names: &mut Names) -> Result<Option<Token>, MouthFault>
+        ensures bites { Bitten (line_end self.old.spot.state) (answer_at names.new result) self.new.spot }
+        ensures fault { self.new.fault ≡ self.old.fault }
+        ensures gone { self.new.spot.tail ≡ [] }
+        ensures names { names.new ≡ table_behind names.old (answer_at names.new result) }
+        ensures grows { Extends names.old names.new }
+        ensures given { AnswerWithin (length names.new) result }
+    {
+        self.skip();
+        match self.state() {
+            State::NewLine => Ok(Some(named(alloc, names, &PAR)?)),
+            State::MidLine => Ok(Some(Token::Char(SPACE, category::SPACE))),
+            State::SkippingBlanks => Ok(None),
+        }
+    }
+
+    // The state.
+    fn state(&self) -> State
+        ensures { result ≡ self.now.spot.state }
+    {
+        self.state
+    }
+
+    // Goes to a state.
+    fn go(&mut self, state: State)
+        ensures { self.new ≡ record { spot = record { state = state; tail = self.old.spot.tail }; fault = self.old.fault } }
+    {
+        self.state = state;
+    }
+
+    // Leaves the rest of the line.
+    fn skip(&mut self)
+        ensures { self.new ≡ record { spot = record { state = self.old.spot.state; tail = [] }; fault = self.old.fault } }
+    {
+        self.front = None;
+        self.place = self.line.as_slice().len();
+    }
+
+    // Takes the next character, as it is looked at.
+    fn take<C: Codes>(&mut self, codes: &C) -> Option<u32>
+        ensures first { MatchOption result ((settled (C.cats codes.now) self.old.spot.tail ≡ []) × (self.new.spot.tail ≡ [])) (λ c. settled (C.cats codes.now) self.old.spot.tail ≡ c ∷ self.new.spot.tail) }
+        ensures state { self.new.spot.state ≡ self.old.spot.state }
+        ensures fault { self.new.fault ≡ self.old.fault }
+        ensures lower { length self.new.spot.tail + length (option_to_list result) ≤ length self.old.spot.tail }
+        ensures scalar { IfSome result IsScalar }
+    {
+        let c = self.peek(codes)?;
+        self.pass();
+        Some(c)
+    }
+
+    // Leaves the first character.
+    fn pass(&mut self)
+        requires { 1 ≤ length self.old.spot.tail }
+        ensures { self.new ≡ record { spot = record { state = self.old.spot.state; tail = drop 1 self.old.spot.tail }; fault = self.old.fault } }
+    {
+        match self.front {
+            Some(_) => self.front = None,
+            None => self.place += 1,
+        }
+    }
+
     // What stands at the front of the characters left, as it is looked at; it is written there.
     fn peek<C: Codes>(&mut self, codes: &C) -> Option<u32>
         ensures first { MatchOption result (settled (C.cats codes.now) self.old.spot.tail ≡ []) (λ c. (settled (C.cats codes.now) self.old.spot.tail ≡ c ∷ drop 1 self.new.spot.tail) × (1 ≤ length self.new.spot.tail)) }
         ensures tail { self.new.spot.tail ≡ settled (C.cats codes.now) self.old.spot.tail }
         ensures state { self.new.spot.state ≡ self.old.spot.state }
         ensures fault { self.new.fault ≡ self.old.fault }
+        ensures shorter { length self.new.spot.tail ≤ length self.old.spot.tail }
         ensures scalar { IfSome result IsScalar }
     {
         let first = match self.front {
@@ -120,6 +338,32 @@ impl Mouth {
         self.front = Some(looked.code);
         Some(looked.code)
     }
+}
+
+// The name with these characters.
+fn named(alloc: Global, names: &mut Names, text: &[u32]) -> Result<Token, AllocError>
+    requires { All IsScalar text.now }
+    ensures token { IfOk result (λ t. token_at names.new t ≡ Named text.now) }
+    ensures within { IfOk result (TokenWithin (length names.new)) }
+    ensures ok { OnOk result (names.new ≡ with_text names.old text.now) }
+    ensures err { OnErr result (names.new ≡ names.old) }
+    ensures grows { Extends names.old names.new }
+{
+    let text = Line::from_slice(alloc, text)?;
+    intern(names, &text)
+}
+
+// The name with this text.
+#[tactic(auto, using(crate::proofs::Naming::naming))]
+fn intern(names: &mut Names, text: &Line) -> Result<Token, AllocError>
+    requires { All IsScalar text.now }
+    ensures token { IfOk result (λ t. token_at names.new t ≡ Named text.now) }
+    ensures within { IfOk result (TokenWithin (length names.new)) }
+    ensures ok { OnOk result (names.new ≡ with_text names.old text.now) }
+    ensures err { OnErr result (names.new ≡ names.old) }
+    ensures grows { Extends names.old names.new }
+{
+    Ok(Token::Named(names.intern(text)?))
 }
 
 // A character as it is looked at, and how many characters behind its first it stands for.
