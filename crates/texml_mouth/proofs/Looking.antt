@@ -1,5 +1,5 @@
 -- Groups of carets.
-use Rattle.std.proofs.Common.{◌≡◌, ℕ, ◌+◌, ◌*◌, ◌≤◌, ◌<◌, List, [], ◌∷◌, length, drop, get_or, Bool, true, false, ◌&&◌, ◌==◌, nat_lt, cond, refl, arith, rules, sym, ap, ◌∙◌, subst}
+use Rattle.std.proofs.Common.{◌≡◌, ℕ, ◌+◌, ◌≤◌, ◌<◌, List, [], ◌∷◌, length, drop, get_or, Bool, true, false, ◌&&◌, nat_lt, cond, refl, arith, rules}
 use Rattle.std.proofs.lemmas.Bool.Decides.{nat_tests}
 use Rattle.std.specs.Char.{IsScalar}
 use Rattle.texml_mouth.specs.Looked.{look, look_at, settled, is_pair, begins_hex, is_hex_digit, hex_code, turned}
@@ -59,8 +59,8 @@ look_at_front cats empty step c (d ∷ x ∷ []) =
     by_test (at_front cats empty step) (is_pair cats c d && nat_lt x 128) _ _ _ _ (look_at_front cats empty step (turned x) []) refl
 look_at_front cats empty step c (d ∷ x ∷ y ∷ tail) =
     by_test (at_front cats empty step) (is_pair cats c d && begins_hex (x ∷ y ∷ tail)) _ _ _ _
-        (look_at_front cats empty step (hex_code x y) tail)
-        (by_test (at_front cats empty step) (is_pair cats c d && nat_lt x 128) _ _ _ _ (look_at_front cats empty step (turned x) (y ∷ tail)) refl)
+    (look_at_front cats empty step (hex_code x y) tail)
+    (by_test (at_front cats empty step) (is_pair cats c d && nat_lt x 128) _ _ _ _ (look_at_front cats empty step (turned x) (y ∷ tail)) refl)
 
 -- a fold is one step at the front as it is looked at
 pub look-front : {A : Type 0} (cats : ℕ → ℕ) (empty : A) (step : ℕ → List ℕ → A → A) (text : List ℕ)
@@ -79,8 +79,8 @@ settled_at-length cats c (d ∷ x ∷ []) =
     le_test (is_pair cats c d && nat_lt x 128) _ _ _ (omega (arith, settled_at-length cats (turned x) [])) (omega arith)
 settled_at-length cats c (d ∷ x ∷ y ∷ tail) =
     le_test (is_pair cats c d && begins_hex (x ∷ y ∷ tail)) _ _ _
-        (omega (arith, settled_at-length cats (hex_code x y) tail))
-        (le_test (is_pair cats c d && nat_lt x 128) _ _ _ (omega (arith, settled_at-length cats (turned x) (y ∷ tail))) (omega arith))
+    (omega (arith, settled_at-length cats (hex_code x y) tail))
+    (le_test (is_pair cats c d && nat_lt x 128) _ _ _ (omega (arith, settled_at-length cats (turned x) (y ∷ tail))) (omega arith))
 
 -- a text gets no longer as it is looked at
 pub settled-length : (cats : ℕ → ℕ) (text : List ℕ) → length (settled cats text) ≤ length text

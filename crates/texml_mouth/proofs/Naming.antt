@@ -1,5 +1,5 @@
 -- Names that were given.
-use Rattle.std.proofs.Common.{◌≡◌, ◌≤◌, ℕ, zero, suc, List, refl, ap, arith}
+use Rattle.std.proofs.Common.{◌≡◌, ◌≤◌, ℕ, zero, suc, List, ap, arith}
 use Rattle.texml_token.specs.Token.{Named}
 use Rattle.texml_token.specs.Numbers.{Table, text_at, name_at}
 use Rattle.texml_token.proofs.Table.{extends_refl}

@@ -1,9 +1,9 @@
 -- The tokens of a line (The TeXbook, chapters 7 and 8).
-use Rattle.std.specs.Prelude.{◌≡◌, ℕ, List, [], ◌∷◌, if◌then◌else◌, ◌==◌, Option, Some, None, Result, Ok, Err}
+use Rattle.std.specs.Prelude.{ℕ, List, [], ◌∷◌, if◌then◌else◌, ◌==◌}
 use Rattle.texml_token.specs.Token.{Token, Char, Active, Named}
 use Rattle.texml_mouth.specs.declared.State.{State}
 use Rattle.texml_mouth.specs.declared.State.TheVariants.{NewLine, MidLine, SkippingBlanks}
-use Rattle.texml_mouth.specs.Looked.{look, settled}
+use Rattle.texml_mouth.specs.Looked.{look}
 
 -- where in a line a reader is: its state, and the characters that are left
 pub record Spot : Type 0 where
@@ -32,25 +32,29 @@ pub record Word : Type 0 where
   pub letters : List ℕ
   pub behind : List ℕ
 
-abbrev pub with_letter : ℕ → Word → Word
-with_letter c word = record { letters = c ∷ word.letters; behind = word.behind }
+abbrev pub no_word : List ℕ → Word
+no_word behind = record { letters = []; behind = behind }
+
+-- the word that begins with a letter; another character begins none
+abbrev pub word_from : (ℕ → ℕ) → ℕ → List ℕ → Word → Word
+word_from cats c tail onward =
+    if cats c == 11 then record { letters = c ∷ onward.letters; behind = onward.behind }
+    else no_word (c ∷ tail)
 
 -- the longest word at the front of a text
 abbrev pub word : (ℕ → ℕ) → List ℕ → Word
-word cats = look cats (record { letters = []; behind = [] })
-    (λ c tail onward. if cats c == 11 then with_letter c onward else record { letters = []; behind = c ∷ tail })
+word cats = look cats (no_word []) (word_from cats)
 
--- the token of a name that is a word
-abbrev pub gives_word : Word → Bite
-gives_word w = gives (Named w.letters) SkippingBlanks w.behind
+-- the name that begins with a character: the longest word, or a name of one character
+abbrev pub name_from : (ℕ → ℕ) → Word → ℕ → List ℕ → Bite
+name_from cats longest c tail =
+    if cats c == 11 then gives (Named longest.letters) SkippingBlanks longest.behind
+    else if cats c == 10 then gives (Named (c ∷ [])) SkippingBlanks tail
+    else gives (Named (c ∷ [])) MidLine tail
 
--- the name behind an escape character: a word, or one character that is no letter, or at the line's end the empty name
+-- the name behind an escape character, which is the empty name at the line's end
 abbrev pub name : (ℕ → ℕ) → List ℕ → Bite
-name cats text = look cats (gives (Named []) SkippingBlanks [])
-    (λ c tail onward.
-        if cats c == 11 then gives_word (word cats text)
-        else gives (Named (c ∷ [])) (if cats c == 10 then SkippingBlanks else MidLine) tail)
-    text
+name cats text = look cats (gives (Named []) SkippingBlanks []) (λ c tail onward. name_from cats (word cats text) c tail) text
 
 -- at an end of line the rest of the line goes
 abbrev pub line_end : State → Bite

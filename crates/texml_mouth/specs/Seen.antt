@@ -19,11 +19,17 @@ pub record Seen : Type 0 where
 abbrev pub left : Option ℕ → List ℕ → ℕ → List ℕ
 left front line place = option_to_list front ++ drop place line
 
+-- a character that may not stand there is a character
+abbrev pub IsFault : MouthFault → Type 0
+IsFault (Invalid c) = IsScalar c
+IsFault NoMemory = Unit {0}
+
 -- the place is in the line, and there are characters alone
-pub record IsInLine (front : Option ℕ) (line : List ℕ) (place : ℕ) : Type 0 where
+pub record IsSound (front : Option ℕ) (line : List ℕ) (place : ℕ) (fault : Option MouthFault) : Type 0 where
   pub within : place ≤ length line
   pub settled : IfSome front IsScalar
   pub scalars : All IsScalar line
+  pub kept : IfSome fault IsFault
 
 -- an answer with its token as the definitions see it
 abbrev pub answer_at : Table → Result (Option TokenCode) MouthFault → Result (Option Token) MouthFault
@@ -47,13 +53,13 @@ table_behind texts (Ok (Some Fixed)) = texts
 table_behind texts (Ok None) = texts
 table_behind texts (Err e) = texts
 
--- so many names give the token of an answer, and a character that may not stand there is one
+-- so many names give the token of an answer
 abbrev pub AnswerWithin : ℕ → Result (Option TokenCode) MouthFault → Type 0
 AnswerWithin count (Ok (Some t)) = TokenWithin count t
 AnswerWithin count (Ok None) = Unit {0}
-AnswerWithin count (Err (Invalid c)) = IsScalar c
-AnswerWithin count (Err NoMemory) = Unit {0}
+AnswerWithin count (Err e) = IsFault e
 
+-- the fault that is kept after an answer
 abbrev pub fault_after : {A : Type 0} → Result A MouthFault → Option MouthFault
 fault_after (Ok v) = None
 fault_after (Err e) = Some e

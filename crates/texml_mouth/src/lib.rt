@@ -13,13 +13,12 @@ ghost use Rattle.texml_token.specs.Numbers.{token_at, TokenWithin, Extends, Numb
 ghost use Rattle.texml_token.specs.Token.{Named};
 ghost use Rattle.texml_mouth.specs.declared.State.{State};
 ghost use Rattle.texml_mouth.specs.Looked.{settled, begins_hex, is_hex_digit, hex_value, turned};
-ghost use Rattle.texml_mouth.specs.Mouth.{bites, bite, name, word, with_letter, line_end, Gives};
+ghost use Rattle.texml_mouth.specs.Mouth.{bites, bite, name, word, line_end, Gives, Dry};
 ghost use Rattle.texml_mouth.specs.Seen.{Bitten, answer_at, table_behind, AnswerWithin, fault_after};
 
 use std::alloc::{AllocError, Global};
 use std::marker::Model;
-use texml_token::category;
-use texml_token::{Line, Name, Names, Token};
+use texml_token::{Line, Name, Names, Token, category};
 
 // The code of a space token.
 const SPACE: u32 = 32;
@@ -79,13 +78,13 @@ pub struct Mouth {
 }
 
 impl Model for Mouth {
-    ghost use Rattle.texml_mouth.specs.Seen.{Seen, left, IsInLine};
+    ghost use Rattle.texml_mouth.specs.Seen.{Seen, left, IsSound};
 
     ghost Value = { Seen };
 
     ghost view = { λ m. record { spot = record { state = m.state; tail = left m.front m.line m.place }; fault = m.fault } };
 
-    ghost invariant = { λ m. IsInLine m.front m.line m.place };
+    ghost invariant = { λ m. IsSound m.front m.line m.place m.fault };
 }
 
 impl Mouth {
@@ -290,8 +289,10 @@ impl Mouth {
     }
 
     // Takes the next character, as it is looked at.
+    #[tactic(auto, using(crate::proofs::Biting::biting))]
     fn take<C: Codes>(&mut self, codes: &C) -> Option<u32>
         ensures first { MatchOption result ((settled (C.cats codes.now) self.old.spot.tail ≡ []) × (self.new.spot.tail ≡ [])) (λ c. settled (C.cats codes.now) self.old.spot.tail ≡ c ∷ self.new.spot.tail) }
+        ensures bites { MatchOption result (bites (C.cats codes.now) self.old.spot ≡ Dry) (λ c. bites (C.cats codes.now) self.old.spot ≡ bite (C.cats codes.now) self.old.spot.state c self.new.spot.tail (bites (C.cats codes.now) self.new.spot)) }
         ensures state { self.new.spot.state ≡ self.old.spot.state }
         ensures fault { self.new.fault ≡ self.old.fault }
         ensures lower { length self.new.spot.tail + length (option_to_list result) ≤ length self.old.spot.tail }
@@ -309,7 +310,11 @@ impl Mouth {
     {
         match self.front {
             Some(_) => self.front = None,
-            None => self.place += 1,
+            None => {
+                let length = self.line.as_slice().len();
+                prove!(self.place < length);
+                self.place += 1;
+            }
         }
     }
 
@@ -392,7 +397,7 @@ fn looked_at<C: Codes>(codes: &C, c: u32, behind: &[u32]) -> Looked
 fn group<C: Codes>(codes: &C, c: u32, behind: &[u32]) -> Option<Looked>
     ensures { MatchOption result (settled (C.cats codes.now) (c ∷ behind.now) ≡ c ∷ behind.now)
         (λ group. (1 ≤ group.taken) × (group.taken ≤ length behind.now) × IsScalar group.code
-            × (settled (C.cats codes.now) (c ∷ behind.now) ≡ settled (C.cats codes.now) (group.code ∷ drop group.taken behind.now))) }
+        × (settled (C.cats codes.now) (c ∷ behind.now) ≡ settled (C.cats codes.now) (group.code ∷ drop group.taken behind.now))) }
 {
     if behind.len() < 2 || behind[0] != c || codes.category(c) != category::SUPERSCRIPT {
         return None;

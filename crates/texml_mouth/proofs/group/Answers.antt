@@ -1,4 +1,4 @@
-use Rattle.std.proofs.Common.{rules, ◌≡◌, ◌≤◌, ◌<◌, ◌+◌, ◌*◌, arith, length, drop, get_or, sym, ◌∙◌, true, false}
+use Rattle.std.proofs.Common.{◌≡◌, ◌≤◌, ◌+◌, ◌*◌, arith, length, drop, true, false}
 use Rattle.std.proofs.lemmas.Grind.{common_steps}
 use Rattle.texml_mouth.specs.Looked.{begins_hex}
 use Rattle.texml_mouth.proofs.Looking.{long_group, short_group, scalar_below}
