@@ -1,0 +1,58 @@
+-- What a line gives, by the first character as it is looked at.
+use Rattle.std.proofs.Common.{◌≡◌, ℕ, List, [], ◌∷◌, refl, ap, ◌∙◌, rules, false, ◌==◌}
+use Rattle.std.proofs.lemmas.Bool.Decides.{nat_tests}
+use Rattle.texml_token.specs.Token.{Named}
+use Rattle.texml_mouth.specs.declared.State.TheVariants.{MidLine, SkippingBlanks}
+use Rattle.texml_mouth.specs.Looked.{look, settled}
+use Rattle.texml_mouth.specs.Mouth.{Spot, Dry, bite, bites, name, word, no_word, word_from, name_from, gives}
+use Rattle.texml_mouth.proofs.Looking.{look-front, at_front}
+
+-- a fold at a text whose front is known
+pub look_step : {A : Type 0} (cats : ℕ → ℕ) (empty : A) (step : ℕ → List ℕ → A → A) (text : List ℕ) (c : ℕ) (tail : List ℕ)
+    → settled cats text ≡ c ∷ tail → look cats empty step text ≡ step c tail (look cats empty step tail)
+look_step cats empty step text c tail is = look-front cats empty step text ∙ ap (at_front cats empty step) is
+
+pub look_end : {A : Type 0} (cats : ℕ → ℕ) (empty : A) (step : ℕ → List ℕ → A → A) (text : List ℕ) → settled cats text ≡ [] → look cats empty step text ≡ empty
+look_end cats empty step text is = look-front cats empty step text ∙ ap (at_front cats empty step) is
+
+-- the case table at the front of the characters left
+pub bites_step : (cats : ℕ → ℕ) (spot : Spot) (c : ℕ) (tail : List ℕ) → settled cats spot.tail ≡ c ∷ tail
+    → bites cats spot ≡ bite cats spot.state c tail (bites cats (record { state = spot.state; tail = tail }))
+bites_step cats spot c tail is = look_step cats Dry (bite cats spot.state) spot.tail c tail is
+
+pub bites_end : (cats : ℕ → ℕ) (spot : Spot) → settled cats spot.tail ≡ [] → bites cats spot ≡ Dry
+bites_end cats spot is = look_end cats Dry (bite cats spot.state) spot.tail is
+
+-- a word at the front of a text
+module _ (cats : ℕ → ℕ) (text : List ℕ) (c : ℕ) (tail : List ℕ) (is : settled cats text ≡ c ∷ tail) where
+  at_word : word cats text ≡ word_from cats c tail (word cats tail)
+  at_word = look_step cats (no_word []) (word_from cats) text c tail is
+
+  pub word_letter : cats c ≡ 11 → word cats text ≡ record { letters = c ∷ (word cats tail).letters; behind = (word cats tail).behind }
+  word_letter letter = at_word ∙ rw letter refl
+
+  pub word_other : (cats c ≡ 11 → ⊥) → word cats text ≡ no_word (c ∷ tail)
+  word_other other = let test : (cats c == 11) ≡ false = search (rules, nat_tests) in at_word ∙ rw test refl
+
+  at_name : name cats text ≡ name_from cats (word cats text) c tail
+  at_name = look_step cats (gives (Named []) SkippingBlanks []) (λ d rest onward. name_from cats (word cats text) d rest) text c tail is
+
+  pub name_word : cats c ≡ 11 → name cats text ≡ gives (Named (c ∷ (word cats tail).letters)) SkippingBlanks (word cats tail).behind
+  name_word letter = at_name ∙ (ap (λ w. name_from cats w c tail) (word_letter letter) ∙ rw letter refl)
+
+  pub name_blank : cats c ≡ 10 → name cats text ≡ gives (Named (c ∷ [])) SkippingBlanks tail
+  name_blank blank = at_name ∙ rw blank refl
+
+  pub name_other : (cats c ≡ 11 → ⊥) → (cats c ≡ 10 → ⊥) → name cats text ≡ gives (Named (c ∷ [])) MidLine tail
+  name_other no_letter no_blank =
+      let letter : (cats c == 11) ≡ false = search (rules, nat_tests) in
+      let blank : (cats c == 10) ≡ false = search (rules, nat_tests) in
+      at_name ∙ rw (letter, blank) refl
+
+pub word_end : (cats : ℕ → ℕ) (text : List ℕ) → settled cats text ≡ [] → word cats text ≡ no_word []
+word_end cats text is = look_end cats (no_word []) (word_from cats) text is
+
+pub name_end : (cats : ℕ → ℕ) (text : List ℕ) → settled cats text ≡ [] → name cats text ≡ gives (Named []) SkippingBlanks []
+name_end cats text is = look_end cats (gives (Named []) SkippingBlanks []) (λ d rest onward. name_from cats (word cats text) d rest) text is
+
+pub ruleset biting = (bites_step, bites_end)

@@ -1,0 +1,5 @@
+pub mod Looking
+pub mod Naming
+pub mod Biting
+pub mod Left
+pub mod Falls

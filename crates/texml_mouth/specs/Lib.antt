@@ -1,0 +1,3 @@
+pub mod Looked
+pub mod Mouth
+pub mod Seen
