@@ -4,7 +4,8 @@ use Rattle.std.specs.Option.{option_map}
 use Rattle.std.specs.declared.option.Option.{Option}
 use Rattle.texml_base.specs.Outside.{Ink, inked}
 use Rattle.texml_base.specs.Rising.{add_up}
-use Rattle.texml_top.specs.Outcome.{fault, IsFault, IsRefusal, written, asked_outcome, outcome, converted}
+use Rattle.texml_top.specs.Outcome.{written, asked_outcome, outcome, converted}
+use Rattle.texml_top.specs.Faults.{fault, IsFault, IsRefusal}
 use Rattle.texml_top.specs.Words.{asked}
 use Rattle.texml_top.specs.Run.{MayEnd}
 use Rattle.texml_top.specs.declared.status.Status.{Status}
@@ -18,6 +19,16 @@ refusal_from_fault code file about all (Tex f) e h = e ∙ ap (λ s. Err s) (sym
 refusal_from_fault code file about all ReadFault e h = h
 refusal_from_fault code file about all WriteFault e h = h
 refusal_from_fault code file about all NoMemory e h = tt
+
+-- a refusal of a part is one of the whole
+pub refusal_carried : {A B : Type 0} (part : Result A Status) (all : Result B Status) (s : Status) → ((t : Status) → part ≡ Err t → all ≡ Err t)
+    → IsRefusal part s → IsRefusal all s
+refusal_carried part all Done carried h = h
+refusal_carried part all (Usage k) carried h = h
+refusal_carried part all (Tex f) carried h = carried (Tex f) h
+refusal_carried part all ReadFault carried h = h
+refusal_carried part all WriteFault carried h = h
+refusal_carried part all NoMemory carried h = tt
 
 kept_bytes : (o : Option (List ℕ)) → option_map (λ xs. xs ++ []) o ≡ o
 kept_bytes None = refl

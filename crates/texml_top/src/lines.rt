@@ -1,10 +1,13 @@
 // The lines of a text.
 ghost use Rattle.std.specs.Prelude.{◌≡◌, ◌∷◌, ◌<◌, ◌==◌, [], length, position, MatchOption, IfOk};
 ghost use Rattle.texml_top.specs.Lines.{lines, loaded, trim_end, without_mark};
+ghost use Rattle.std.specs.Char.{IsScalar};
+ghost use Rattle.std.specs.List.{All};
 ghost use Rattle.std.specs.Str.{chars};
 ghost use Rattle.std.specs.Str.Lines.{strip_carriage_return};
 
 use std::alloc::{AllocError, Global};
+use texml_token::Line;
 
 // The first line of a text, and what follows it.
 #[tactic(auto, using(crate::proofs::FirstLine::first_line))]
@@ -39,12 +42,25 @@ fn without_return(line: &[char]) -> &[char]
 }
 
 // A line as it is read: without spaces at its end, and with a carriage return there.
-pub fn load(alloc: Global, line: &[char]) -> Result<Vec<char>, AllocError>
-    ensures { IfOk result (λ v. v.items ≡ loaded line.now) }
+pub fn load(alloc: Global, line: &[char]) -> Result<Line, AllocError>
+    ensures codes { IfOk result (λ l. l ≡ loaded line.now) }
+    ensures scalars { IfOk result (All IsScalar) }
 {
-    let mut line = without_spaces(line).to_vec(alloc)?;
-    line.push('\r')?;
-    Ok(line)
+    let mut codes = codes_of(alloc, without_spaces(line))?;
+    codes.push('\r' as u32)?;
+    Ok(codes)
+}
+
+// The codes of characters.
+fn codes_of(alloc: Global, text: &[char]) -> Result<Line, AllocError>
+    ensures codes { IfOk result (λ l. l ≡ text.now) }
+    ensures scalars { IfOk result (All IsScalar) }
+{
+    let mut codes = Line::new(alloc);
+    for c in text {
+        codes.push(*c as u32)?;
+    }
+    Ok(codes)
 }
 
 #[tactic(auto, using(crate::proofs::FirstLine::trimmed))]

@@ -42,15 +42,15 @@ impl<T: Drop> From<AllocFailed<T>> for Status {
 }
 
 impl Status {
-    ghost use Rattle.texml_top.specs.Outcome.{IsFault};
+    ghost use Rattle.texml_top.specs.Faults.{IsFault};
 
-    // A fault of the main file, before its first line.
-    pub fn fault(alloc: Global, code: u8, file: &str, about: &str) -> Self
+    // A fault of a file, or want of memory. Lines are not counted yet, so its line is 0.
+    pub(crate) fn fault(alloc: Global, code: u8, file: &str, about: &[u8]) -> Self
         ensures { IsFault code file.now about.now result }
     {
         match (
             Bytes::from_slice(alloc, file.as_bytes()),
-            Bytes::from_slice(alloc, about.as_bytes()),
+            Bytes::from_slice(alloc, about),
         ) {
             (Ok(file), Ok(about)) => Status::Tex(Fault {
                 code,

@@ -37,16 +37,26 @@ fn main_file(
 #[test]
 fn texts_are_paragraphs_or_their_first_fault(rt: HostRuntime) -> Result<(), Fail> {
     let alloc = rt.alloc();
-    let rows: [(&[u8], u8, &str); 7] = [
+    // A text, the fault's number or 0, and the body of the page or what the fault is about.
+    let rows: [(&[u8], u8, &str); 16] = [
         (b"", 0, ""),
         (b"Hello\nworld\n\nTwo\n", 0, "<p>Hello world</p><p>Two</p>"),
         (b"a<b % c\n", 0, "<p>a&lt;b</p>"),
+        (b"  x   y \r\n\n\n z", 0, "<p>x y</p><p>z</p>"),
+        (b"\xef\xbb\xbf1\\par2\\par 3", 0, "<p>1</p><p>2</p><p>3</p>"),
+        (b"^^41^^5e^^41", 0, "<p>A\u{1e}41</p>"),
         (b"a{b\n", 18, ""),
         (b"a<b % c\n&\n", 18, ""),
+        (b"x^y", 18, ""),
         (b"\xff\n", 20, ""),
-        (b"  x   y \r\n\n\n z", 0, "<p>x y</p><p>z</p>"),
+        (b"ok\n\n\xc3", 20, ""),
+        (b"a~b", 1, "~"),
+        (b"a\x7f\n", 15, ""),
+        (b"\\foo&", 1, "\\foo"),
+        (b"\\", 1, "\\\r"),
+        (b"\\% {", 1, "\\%"),
     ];
-    for (text, code, body) in rows {
+    for (text, code, found) in rows {
         let mut files = main_file(alloc, text, 3, 0)?;
         let mut out = MemorySink::new(alloc, 1000, 0)?;
         let mut notes = MemorySink::new(alloc, 10, 0)?;
@@ -54,12 +64,13 @@ fn texts_are_paragraphs_or_their_first_fault(rt: HostRuntime) -> Result<(), Fail
         match run(alloc, &words, &mut files, &mut out, &mut notes) {
             Status::Done => {
                 assert_eq!(rt; code, 0);
-                let page = format!(in alloc; "{HEAD}{body}{TAIL}")?;
+                let page = format!(in alloc; "{HEAD}{found}{TAIL}")?;
                 assert_eq!(rt; out.bytes(), page.as_bytes());
             }
             Status::Tex(fault) => {
                 assert_eq!(rt; fault.code, code);
                 assert_eq!(rt; fault.file.as_slice(), b"main.tex".as_slice());
+                assert_eq!(rt; fault.about.as_slice(), found.as_bytes());
                 assert_eq!(rt; out.bytes().len(), 0);
             }
             _ => assert!(rt; false),

@@ -1,24 +1,18 @@
 //! The run.
-ghost use Rattle.std.specs.Prelude.{◌≡◌, ◌≢◌, ◌<◌, [], length, map, string_bytes, IsTrue, IfOk, MatchResult, Ok, None, Some, if◌then◌else◌};
-ghost use Rattle.std.specs.Option.{option_map};
-ghost use Rattle.std.specs.Str.{chars};
+ghost use Rattle.std.specs.Prelude.{◌≡◌, ◌≢◌, ◌<◌, [], length, map, string_bytes, IsTrue, MatchResult, Ok, Some};
 ghost use Rattle.texml_base.specs.Outside.{inked};
 ghost use Rattle.texml_base.specs.Rising.{Rose};
 ghost use Rattle.texml_top.specs.Words.{asked};
-ghost use Rattle.texml_top.specs.Outcome.{outcome, converted, IsRefusal};
-ghost use Rattle.texml_top.specs.Tokens.{tokens, joined, line_tokens};
-ghost use Rattle.texml_top.specs.Lines.{lines, without_mark};
-ghost use Rattle.texml_top.specs.declared.mouth.State.TheVariants.{NewLine};
+ghost use Rattle.texml_top.specs.Outcome.{outcome, converted};
+ghost use Rattle.texml_top.specs.Faults.{IsRefusal};
 ghost use Rattle.texml_top.specs.Run.{Converts, MayEnd, RefusesWords};
 
-use crate::lines::{chars_of, drop_mark, load, next_line};
-use crate::material::Material;
-use crate::mouth::Mouth;
 use crate::page::page_of;
+use crate::reading::read_text;
 use crate::source::read_whole;
 use crate::status::Status;
 use crate::words::read_words;
-use std::alloc::{AllocError, Global};
+use std::alloc::Global;
 use texml_base::{Files, Sink, Trouble};
 
 /// Does what the words of a command line ask for: `convert FILE` writes the HTML of a file to `out`.
@@ -77,7 +71,7 @@ fn convert<F: Files>(alloc: Global, files: &mut F, name: &str) -> Result<String,
 {
     let bytes = match read_whole(alloc, files, name) {
         Ok(Some(bytes)) => bytes,
-        Ok(None) => return Err(Status::fault(alloc, 19, name, name)),
+        Ok(None) => return Err(Status::fault(alloc, 19, name, name.as_bytes())),
         Err(Trouble::Failed) => return Err(Status::ReadFault),
         Err(Trouble::NoMemory) => return Err(Status::NoMemory),
     };
@@ -89,40 +83,8 @@ fn typeset(alloc: Global, name: &str, bytes: &[u8]) -> Result<String, Status>
     ensures { MatchResult result (λ html. converted name.now (Some bytes.now) ≡ Ok (string_bytes html)) (IsRefusal (converted name.now (Some bytes.now))) }
 {
     let Ok(text) = str::from_utf8(bytes) else {
-        return Err(Status::fault(alloc, 20, name, ""));
+        return Err(Status::fault(alloc, 20, name, b""));
     };
-    match tokens_of(alloc, text)? {
-        Some(tokens) => Ok(page_of(alloc, &tokens)?),
-        None => Err(Status::fault(alloc, 18, name, "")),
-    }
-}
-
-// The tokens of a text, or none where a character is special.
-fn tokens_of(alloc: Global, text: &str) -> Result<Option<Vec<Material>>, AllocError>
-    ensures { IfOk result (λ o. option_map (λ v. v.items) o ≡ tokens (lines (without_mark (chars text.now)))) }
-{
-    let chars = chars_of(alloc, text)?;
-    let mut rest = drop_mark(&chars);
-    let mut tokens = Vec::new(alloc);
-    while let Some((line, more)) = next_line(rest) {
-        if !read_line(&load(alloc, line)?, &mut tokens)? {
-            return Ok(None);
-        }
-        rest = more;
-    }
-    Ok(Some(tokens))
-}
-
-// Adds the tokens of a line, and says whether no character is special.
-fn read_line(line: &[char], into: &mut Vec<Material>) -> Result<bool, AllocError>
-    ensures { IfOk result (λ fine. joined (Some into.old.items) (line_tokens line.now NewLine) ≡ (if fine then Some into.new.items else None)) }
-{
-    let mut mouth = Mouth::new(line);
-    loop {
-        match mouth.next() {
-            Ok(Some(token)) => into.push(token)?,
-            Ok(None) => return Ok(true),
-            Err(_) => return Ok(false),
-        }
-    }
+    let material = read_text(alloc, name, text)?;
+    Ok(page_of(alloc, &material)?)
 }
