@@ -4,7 +4,7 @@ use Rattle.std.specs.Prelude.{codes}
 use Rattle.std.specs.List.{flat_map}
 use Rattle.std.proofs.lemmas.Bool.{ne_eqb}
 use Rattle.std.proofs.lemmas.Str.{encode_ascii}
-use Rattle.texml_top.specs.Lines.{onto_first, trim_end}
+use Rattle.texml_text.specs.Lines.{onto_first, trim_end}
 use Rattle.texml_top.specs.Page.{parts, paragraph, trim_start, escaped, open_rest, rest}
 use Rattle.texml_top.specs.declared.material.Material.{Material}
 use Rattle.texml_top.specs.declared.material.Material.TheVariants.{Char, Par}

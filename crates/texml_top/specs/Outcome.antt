@@ -3,7 +3,7 @@ use Rattle.std.specs.Prelude.{ℕ, List, [], if◌then◌else◌, Result, Ok, Er
 use Rattle.std.specs.declared.option.Option.{Option}
 use Rattle.std.specs.Str.{chars, is_utf8}
 use Rattle.texml_top.specs.Words.{asked}
-use Rattle.texml_top.specs.Lines.{lines, without_mark}
+use Rattle.texml_text.specs.Lines.{lines, without_mark}
 use Rattle.texml_top.specs.Faults.{fault}
 use Rattle.texml_top.specs.Reading.{of_lines}
 use Rattle.texml_top.specs.Page.{page}

@@ -1,11 +1,11 @@
 -- What a text puts into the document, or its first fault.
-use Rattle.std.specs.Prelude.{ℕ, zero, suc, ◌==◌, ◌||◌, Bool, List, [], ◌∷◌, ◌++◌, length, if◌then◌else◌, Result, Ok, Err}
+use Rattle.std.specs.Prelude.{ℕ, zero, suc, ◌==◌, ◌||◌, Bool, List, [], ◌∷◌, ◌++◌, length, if◌then◌else◌, Result, Ok, Err, Some}
 use Rattle.texml_token.specs.Token.{Token, Char, Active, Named, Fixed, text_eq}
 use Rattle.texml_mouth.specs.Mouth.{Spot, Bite, Gives, Dry, Bad, bites}
 use Rattle.texml_mouth.specs.declared.State.TheVariants.{NewLine}
 use Rattle.texml_top.specs.Categories.{initial_category}
 use Rattle.texml_top.specs.Faults.{undefined, misplaced, invalid}
-use Rattle.texml_top.specs.Lines.{loaded}
+use Rattle.texml_text.specs.Lines.{loaded}
 use Rattle.texml_top.specs.declared.material.Material.{Material}
 use Rattle.texml_top.specs.declared.material.Material.TheVariants as material
 use Rattle.texml_top.specs.declared.status.Status.{Status}
@@ -54,7 +54,7 @@ of_rest file spot = of_tokens file (suc (length spot.tail)) spot
 
 -- what a line gives, as it is loaded
 abbrev pub of_line : List ℕ → List ℕ → Result (List Material) Status
-of_line file line = of_rest file (record { state = NewLine; tail = loaded line })
+of_line file line = of_rest file (record { state = NewLine; tail = loaded (Some 13) line })
 
 -- what lines give
 abbrev pub of_lines : List ℕ → List (List ℕ) → Result (List Material) Status

@@ -7,7 +7,6 @@
 #![tactic(auto)]
 
 mod codes;
-mod lines;
 mod material;
 mod page;
 mod reading;

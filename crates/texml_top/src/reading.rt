@@ -4,14 +4,14 @@ ghost use Rattle.std.specs.Str.{chars};
 ghost use Rattle.std.specs.List.{All};
 ghost use Rattle.std.specs.Char.{IsScalar};
 ghost use Rattle.texml_token.specs.Numbers.{token_at, TokenWithin};
-ghost use Rattle.texml_top.specs.Lines.{lines, without_mark};
+ghost use Rattle.texml_text.specs.Lines.{lines, without_mark};
 ghost use Rattle.texml_token.specs.Spelling.{spelled};
 ghost use Rattle.texml_top.specs.Faults.{IsFault, IsRefusal};
 ghost use Rattle.texml_top.specs.Reading.{material_of, of_rest, of_lines, joined};
 ghost use Rattle.texml_mouth.specs.declared.State.TheVariants.{NewLine};
 
 use crate::codes::InitialCodes;
-use crate::lines::{chars_of, drop_mark, load, next_line};
+use texml_text::{chars_of, drop_mark, load, next_line};
 use crate::material::Material;
 use crate::status::Status;
 use std::alloc::Global;
@@ -19,6 +19,9 @@ use texml_mouth::{Mouth, MouthFault};
 use texml_token::{Bytes, Line, Names, Token, category, spell};
 
 const PAR: [u32; 3] = [112, 97, 114];
+
+// What stands at the end of each loaded line.
+const END_CHARACTER: char = '\r';
 
 // The code of the escape character with which faults spell names.
 const ESCAPE: i32 = 92;
@@ -33,7 +36,7 @@ pub fn read_text(alloc: Global, file: &str, text: &str) -> Result<Vec<Material>,
     let mut names = Names::new(alloc);
     let mut material = Vec::new(alloc);
     while let Some((line, more)) = next_line(rest) {
-        read_line(alloc, file, load(alloc, line)?, &mut names, &mut material)?;
+        read_line(alloc, file, load(alloc, line, Some(END_CHARACTER))?, &mut names, &mut material)?;
         rest = more;
     }
     Ok(material)

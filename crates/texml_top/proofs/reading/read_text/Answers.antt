@@ -1,5 +1,5 @@
 use Rattle.std.proofs.Common.{◌∙◌, ap, Ok, rules}
-use Rattle.texml_top.specs.Lines.{lines}
+use Rattle.texml_text.specs.Lines.{lines}
 use Rattle.texml_top.specs.Reading.{joined, of_lines, of_line}
 use Rattle.texml_top.proofs.Ending.{refusal_carried}
 use Rattle.texml_top.proofs.ReadingLaws.{lines_more, lines_refused}

@@ -1,5 +1,5 @@
 use Rattle.std.proofs.Common.{◌≡◌, length, Ok}
-use Rattle.texml_top.specs.Lines.{lines}
+use Rattle.texml_text.specs.Lines.{lines}
 use Rattle.texml_top.specs.Reading.{of_lines, joined}
 use Rattle.texml_top.proofs.reading.read_text.Given as goal
 

@@ -2,7 +2,7 @@ use Rattle.std.proofs.Common.{◌≡◌, false, true, ap, refl, ◌∙◌, sym, 
 use Rattle.std.specs.Str.{is_utf8, chars}
 use Rattle.std.proofs.lemmas.Str.{IsUtf8-from_is_utf8, is_utf8-from_IsUtf8}
 use Rattle.std.proofs.lemmas.Bool.{false_from_ne_true}
-use Rattle.texml_top.specs.Lines.{lines, without_mark}
+use Rattle.texml_text.specs.Lines.{lines, without_mark}
 use Rattle.texml_top.specs.Reading.{of_lines}
 use Rattle.texml_top.specs.Outcome.{converted, typeset}
 use Rattle.texml_top.specs.Page.{page}

@@ -1,6 +1,6 @@
-// The lines of a text.
+//! The lines of a text.
 ghost use Rattle.std.specs.Prelude.{◌≡◌, ◌∷◌, ◌<◌, ◌==◌, [], length, position, MatchOption, IfOk};
-ghost use Rattle.texml_top.specs.Lines.{lines, loaded, trim_end, without_mark};
+ghost use Rattle.texml_text.specs.Lines.{lines, loaded, trim_end, without_mark};
 ghost use Rattle.std.specs.Char.{IsScalar};
 ghost use Rattle.std.specs.List.{All};
 ghost use Rattle.std.specs.Str.{chars};
@@ -9,7 +9,8 @@ ghost use Rattle.std.specs.Str.Lines.{strip_carriage_return};
 use std::alloc::{AllocError, Global};
 use texml_token::Line;
 
-// The first line of a text, and what follows it.
+/// The first line of a text, and what follows it, or `None` where the text is empty. A line ends at a line feed; a
+/// carriage return just before that goes.
 #[tactic(auto, using(crate::proofs::FirstLine::first_line))]
 pub fn next_line(text: &[char]) -> Option<(&[char], &[char])>
     ensures line { MatchOption result (lines text.now ≡ []) (λ p. lines text.now ≡ p.0.now ∷ lines p.1.now) }
@@ -41,14 +42,23 @@ fn without_return(line: &[char]) -> &[char]
     }
 }
 
-// A line as it is read: without spaces at its end, and with a carriage return there.
-pub fn load(alloc: Global, line: &[char]) -> Result<Line, AllocError>
-    ensures codes { IfOk result (λ l. l ≡ loaded line.now) }
+/// A line as it is read: without spaces at its end, and with the end character there, if there is one.
+///
+/// # Errors
+///
+/// `AllocError` where there is no memory.
+pub fn load(alloc: Global, line: &[char], end: Option<char>) -> Result<Line, AllocError>
+    ensures codes { IfOk result (λ l. l ≡ loaded end line.now) }
     ensures scalars { IfOk result (All IsScalar) }
 {
     let mut codes = codes_of(alloc, without_spaces(line))?;
-    codes.push('\r' as u32)?;
-    Ok(codes)
+    match end {
+        None => Ok(codes),
+        Some(c) => {
+            codes.push(c as u32)?;
+            Ok(codes)
+        }
+    }
 }
 
 // The codes of characters.
@@ -77,14 +87,18 @@ fn without_spaces(line: &[char]) -> &[char]
     &[]
 }
 
-// The characters of a text.
+/// The characters of a text.
+///
+/// # Errors
+///
+/// `AllocError` where there is no memory.
 pub fn chars_of(alloc: Global, text: &str) -> Result<Vec<char>, AllocError>
     ensures { IfOk result (λ v. v.items ≡ chars text.now) }
 {
     text.chars().collect(alloc)
 }
 
-// The characters without a byte order mark at their start.
+/// The characters without a byte order mark at their start.
 pub fn drop_mark(text: &[char]) -> &[char]
     ensures { result.now ≡ without_mark text.now }
 {

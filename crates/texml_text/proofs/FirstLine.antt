@@ -6,7 +6,7 @@ use Rattle.std.proofs.lemmas.List.Sums.{fails_before_first}
 use Rattle.std.proofs.lemmas.List.Quantifiers.{position-Some}
 use Rattle.std.proofs.Math.Seq.{drop-cons, take-suc, take-nil}
 use Rattle.std.specs.Str.Lines.{strip_carriage_return}
-use Rattle.texml_top.specs.Lines.{lines, onto_first, starts_with_feed, trim_end}
+use Rattle.texml_text.specs.Lines.{lines, onto_first, starts_with_feed, trim_end}
 
 -- no character is a line feed
 pub data NoFeed : List ℕ → Type 0 where

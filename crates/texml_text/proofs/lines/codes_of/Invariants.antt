@@ -1,7 +1,7 @@
 use Rattle.std.proofs.Common.{◌≡◌, take}
 use Rattle.std.specs.List.{All}
 use Rattle.std.specs.Char.{IsScalar}
-use Rattle.texml_top.proofs.lines.codes_of.Given as goal
+use Rattle.texml_text.proofs.lines.codes_of.Given as goal
 
 abbrev pub invariant-loop-c : goal.invariant-loop-c
 invariant-loop-c l = record {
