@@ -45,12 +45,15 @@ word_from cats c tail onward =
 abbrev pub word : (ℕ → ℕ) → List ℕ → Word
 word cats = look cats (no_word []) (word_from cats)
 
+-- the state behind a name of one character that is no letter, by its category
+abbrev pub state_behind : ℕ → State
+state_behind category = if category == 10 then SkippingBlanks else MidLine
+
 -- the name that begins with a character: the longest word, or a name of one character
 abbrev pub name_from : (ℕ → ℕ) → Word → ℕ → List ℕ → Bite
 name_from cats longest c tail =
     if cats c == 11 then gives (Named longest.letters) SkippingBlanks longest.behind
-    else if cats c == 10 then gives (Named (c ∷ [])) SkippingBlanks tail
-    else gives (Named (c ∷ [])) MidLine tail
+    else gives (Named (c ∷ [])) (state_behind (cats c)) tail
 
 -- the name behind an escape character, which is the empty name at the line's end
 abbrev pub name : (ℕ → ℕ) → List ℕ → Bite

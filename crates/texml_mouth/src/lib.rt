@@ -13,7 +13,7 @@ ghost use Rattle.texml_token.specs.Numbers.{token_at, TokenWithin, Extends, Numb
 ghost use Rattle.texml_token.specs.Token.{Named};
 ghost use Rattle.texml_mouth.specs.declared.State.{State};
 ghost use Rattle.texml_mouth.specs.Looked.{settled, begins_hex, is_hex_digit, hex_value, turned};
-ghost use Rattle.texml_mouth.specs.Mouth.{bites, bite, name, word, line_end, Gives, Dry};
+ghost use Rattle.texml_mouth.specs.Mouth.{bites, bite, name, word, state_behind, line_end, Gives, Dry};
 ghost use Rattle.texml_mouth.specs.Seen.{Bitten, answer_at, table_behind, AnswerWithin, fault_after};
 
 use std::alloc::{AllocError, Global};
@@ -219,12 +219,8 @@ impl Mouth {
                 self.go(State::SkippingBlanks);
                 Ok(Some(intern(names, &text)?))
             }
-            category::SPACE => {
-                self.go(State::SkippingBlanks);
-                Ok(Some(named(alloc, names, &[c])?))
-            }
-            _ => {
-                self.go(State::MidLine);
+            category => {
+                self.go(state_behind(category));
                 Ok(Some(named(alloc, names, &[c])?))
             }
         }
@@ -343,6 +339,13 @@ impl Mouth {
         self.front = Some(looked.code);
         Some(looked.code)
     }
+}
+
+// The state behind a name of one character, by its category, where it is no letter.
+fn state_behind(category: u8) -> State
+    ensures { result ≡ state_behind category }
+{
+    if category == category::SPACE { State::SkippingBlanks } else { State::MidLine }
 }
 
 // The name with these characters.
