@@ -39,7 +39,14 @@ fn names_are_numbered_by_first_use(rt: HostRuntime) -> Result<(), Fail> {
     Ok(())
 }
 
-fn check_spelled(rt: &impl Abort, alloc: Global, names: &Names, token: Token, escape: i32, want: &str) -> Result<(), Fail>
+fn check_spelled(
+    rt: &impl Abort,
+    alloc: Global,
+    names: &Names,
+    token: Token,
+    escape: i32,
+    want: &str,
+) -> Result<(), Fail>
     requires { TokenWithin (length names.now) token }
 {
     let mut into = Bytes::new(alloc);
@@ -60,14 +67,34 @@ fn tokens_are_spelled(rt: HostRuntime) -> Result<(), Fail> {
         (33, "!foo", "!relax", "!csname!endcsname"),
     ] {
         check_spelled(&rt, rt.alloc(), &names, Token::Named(Name(1)), escape, word)?;
-        check_spelled(&rt, rt.alloc(), &names, Token::Named(Name(0)), escape, fixed)?;
-        check_spelled(&rt, rt.alloc(), &names, Token::Named(Name(5)), escape, empty)?;
+        check_spelled(
+            &rt,
+            rt.alloc(),
+            &names,
+            Token::Named(Name(0)),
+            escape,
+            fixed,
+        )?;
+        check_spelled(
+            &rt,
+            rt.alloc(),
+            &names,
+            Token::Named(Name(5)),
+            escape,
+            empty,
+        )?;
     }
     Ok(())
 }
 
 // Shows a token before the letter b.
-fn check_shown(rt: &impl Abort, alloc: Global, names: &Names, token: Token, want: &str) -> Result<(), Fail>
+fn check_shown(
+    rt: &impl Abort,
+    alloc: Global,
+    names: &Names,
+    token: Token,
+    want: &str,
+) -> Result<(), Fail>
     requires { TokenWithin (length names.now) token }
 {
     let mut list = Tokens::new(alloc);
@@ -101,7 +128,10 @@ fn copies_stay_as_they_are(rt: HostRuntime) -> Result<(), Fail> {
     let copy = list.clone()?;
     list.push(Token::Named(Name(0)))?;
     assert_eq!(rt; copy.as_slice(), [Token::Active(126)].as_slice());
-    assert_eq!(rt; list.as_slice(), [Token::Active(126), Token::Named(Name(0))].as_slice());
+    assert_eq!(rt;
+        list.as_slice(),
+        [Token::Active(126), Token::Named(Name(0))].as_slice()
+    );
     let fault = Fault {
         code: 1,
         file: Bytes::from_slice(alloc, b"a.tex")?,
