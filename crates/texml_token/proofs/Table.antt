@@ -28,6 +28,11 @@ text_at_number texts q h =
     text_at_suc texts (number_of texts q) (position_or_len (text_eq q) texts) (omega arith) ∙
     sym ((text-decides q _).0 (passes_at_first (text_eq q) texts [] (omega arith)))
 
+-- two texts with one number that was given are the same
+pub same_text : (texts : Table) (p q : List ℕ) → number_of texts p ≤ length texts → number_of texts p ≡ number_of texts q → p ≡ q
+same_text texts p q h e =
+    sym (text_at_number texts p h) ∙ (ap (text_at texts) e ∙ text_at_number texts q (omega (arith, h, e)))
+
 at_most : (texts : Table) (q : List ℕ) → position_or_len (text_eq q) texts ≤ length texts
 at_most texts q = prefix_len-le-length _ texts
 

@@ -1,4 +1,4 @@
-//! Values from outside: names, spellings and shown lists as TeX writes them.
+//! Values from outside: the numbers of names, spellings, and shown lists.
 
 ghost use Rattle.std.specs.Prelude.{◌≤◌, IfOk, length};
 ghost use Rattle.texml_token.specs.Numbers.{TokenWithin};
