@@ -104,9 +104,9 @@ impl Mouth {
 
     /// The next token of the line, or None at its end. A name is given its number in `names`.
     ///
-    /// The characters are looked at with the categories that `codes` has now, and no character behind
-    /// the token and the blanks before it is looked at, but for the one that ends a word (The TeXbook,
-    /// chapters 7 and 8).
+    /// The characters are looked at with the categories that `codes` has at this call (The TeXbook,
+    /// chapters 7 and 8). The text behind a token is left for later calls, but the character that ends
+    /// a word was looked at with it and stays as it was seen.
     ///
     /// # Errors
     ///
@@ -133,21 +133,16 @@ impl Mouth {
         ensures numbered { Numbered names.new }
         ensures given { AnswerWithin (length names.new) result }
     {
-        if let Some(fault) = self.fault {
-            let _given = names.given();
-            return Err(fault);
+        let answer = match self.fault {
+            Some(fault) => Err(fault),
+            None => self.bite(alloc, codes, names),
+        };
+        // The count brings with it that the texts of the table are numbered.
+        let _given = names.given();
+        if let Err(fault) = answer {
+            self.fault = Some(fault);
         }
-        match self.bite(alloc, codes, names) {
-            Ok(token) => {
-                let _given = names.given();
-                Ok(token)
-            }
-            Err(fault) => {
-                let _given = names.given();
-                self.fault = Some(fault);
-                Err(fault)
-            }
-        }
+        answer
     }
 
     // The next token, where no fault is kept.
@@ -433,7 +428,7 @@ fn begins_hex(text: &[u32]) -> bool
 fn is_hex_digit(x: u32) -> bool
     ensures { result ≡ is_hex_digit x }
 {
-    (48 <= x && x <= 57) || (97 <= x && x <= 102)
+    matches!(x, 48..=57 | 97..=102)
 }
 
 // The value of a hexadecimal digit.
