@@ -2,7 +2,7 @@
 use Rattle.std.proofs.Common.{◌≡◌, ℕ, List, [], ◌∷◌, refl, ap, ◌∙◌, rules, false, ◌==◌}
 use Rattle.std.proofs.lemmas.Bool.Decides.{nat_tests}
 use Rattle.texml_token.specs.Token.{Named}
-use Rattle.texml_mouth.specs.declared.State.TheVariants.{MidLine, SkippingBlanks}
+use Rattle.texml_mouth.specs.declared.State.TheVariants.{SkippingBlanks}
 use Rattle.texml_mouth.specs.Looked.{look, settled}
 use Rattle.texml_mouth.specs.Mouth.{Spot, Dry, bite, bites, name, word, no_word, word_from, name_from, state_behind, gives}
 use Rattle.texml_mouth.proofs.Looking.{look-front, at_front}

@@ -340,7 +340,11 @@ impl Mouth {
 fn state_behind(category: u8) -> State
     ensures { result ≡ state_behind category }
 {
-    if category == category::SPACE { State::SkippingBlanks } else { State::MidLine }
+    if category == category::SPACE {
+        State::SkippingBlanks
+    } else {
+        State::MidLine
+    }
 }
 
 // The name with these characters.
@@ -544,7 +548,10 @@ mod tests {
             ("a\r", " a:11 <32>:10"),
             (" \r", " \\par"),
             ("a %b\r", " a:11 <32>:10"),
-            ("a\tb\x0c\0c\u{e9}", " a:11 <32>:10 b:11 <12>:12 c:11 <233>:12"),
+            (
+                "a\tb\x0c\0c\u{e9}",
+                " a:11 <32>:10 b:11 <12>:12 c:11 <233>:12",
+            ),
             ("a\x7f", " a:11 Invalid(127)"),
             // Names.
             ("\\ab  c\\d1\\ab", " \\ab c:11 \\d 1:12 \\ab"),

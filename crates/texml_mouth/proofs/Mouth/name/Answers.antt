@@ -17,5 +17,5 @@ returns-in_ok-intern-in-11-clause-bites g c =
 pub returns-in_ok-named-in_default-category-clause-bites : goal.returns-in_ok-named-in_default-category-clause-bites
 returns-in_ok-named-in_default-category-clause-bites g c =
     rw (c.in_ok-named-in_default-category.ensures.token, c.go-in_default-category.ensures, c.state_behind.ensures, c.category.ensures.value)
-        (name_other (g.C.Codes.cats c.args.codes.now) _ _ _ c.in-Some.ensures.first
-            (λ is. let e : c.category.result ≡ 11 = c.category.ensures.value ∙ is in omega arith))
+    (name_other (g.C.Codes.cats c.args.codes.now) _ _ _ c.in-Some.ensures.first
+    (λ is. let e : c.category.result ≡ 11 = c.category.ensures.value ∙ is in omega arith))
