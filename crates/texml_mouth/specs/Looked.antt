@@ -2,7 +2,7 @@
 use Rattle.std.specs.Prelude.{ℕ, ◌+◌, ◌-◌, ◌*◌, Bool, false, List, [], ◌∷◌, if◌then◌else◌, nat_lt, nat_le, ◌==◌, ◌&&◌, ◌||◌}
 use Rattle.texml_token.specs.declared.category.TheConstants.{SUPERSCRIPT}
 
--- a hexadecimal digit, in small letters
+-- a hexadecimal digit: 0 to 9, or a small letter from a to f
 abbrev pub is_hex_digit : ℕ → Bool
 is_hex_digit x = (nat_le 48 x && nat_le x 57) || (nat_le 97 x && nat_le x 102)
 

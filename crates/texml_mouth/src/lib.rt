@@ -2,8 +2,8 @@
 //!
 //! A character gets its category at the call that reads it, by an object of the caller. The definitions
 //! of `specs/` say what the line gives next: `Looked` how groups of carets are looked at, and `Mouth`
-//! which token comes. Contract: `Mouth::next` gives exactly the token of `bites`, or answers a character
-//! that may not stand in a text. It stands on `texml_token`.
+//! which token comes. Contract: `Mouth::next` gives exactly the token and the state behind it that `bites`
+//! gives, or answers a character that may not stand there. It stands on `texml_token`.
 #![tactic(auto)]
 
 ghost use Rattle.std.specs.Prelude.{◌≡◌, ℕ, ◌+◌, ◌<◌, ◌≤◌, List, [], ◌∷◌, ◌++◌, length, drop, IsTrue, slice_index, Some, None, Ok, Err, MatchOption, IfSome, IfOk, OnOk, OnErr, option_to_list};
@@ -18,7 +18,7 @@ ghost use Rattle.texml_mouth.specs.Seen.{Bitten, answer_at, table_behind, Answer
 
 use std::alloc::{AllocError, Global};
 use std::marker::Model;
-use texml_token::{Line, Name, Names, Token, category};
+use texml_token::{Line, Names, Token, category};
 
 // The code of a space token.
 const SPACE: u32 = 32;
@@ -395,7 +395,6 @@ fn looked_at<C: Codes>(codes: &C, c: u32, behind: &[u32]) -> Looked
 }
 
 // The group of carets that begins a text, if one does.
-#[tactic(auto, using(crate::proofs::Looking::groups))]
 fn group<C: Codes>(codes: &C, c: u32, behind: &[u32]) -> Option<Looked>
     ensures { MatchOption result (settled (C.cats codes.now) (c ∷ behind.now) ≡ c ∷ behind.now)
         (λ group. (1 ≤ group.taken) × (group.taken ≤ length behind.now) × IsScalar group.code
