@@ -2,9 +2,9 @@
 use Rattle.std.proofs.Common.{◌≡◌, ℕ, List, [], ◌∷◌, refl, ap, ◌∙◌, rules, false, ◌==◌}
 use Rattle.std.proofs.lemmas.Bool.Decides.{nat_tests}
 use Rattle.texml_token.specs.Token.{Named}
-use Rattle.texml_mouth.specs.declared.State.TheVariants.{MidLine, SkippingBlanks}
+use Rattle.texml_mouth.specs.declared.State.TheVariants.{SkippingBlanks}
 use Rattle.texml_mouth.specs.Looked.{look, settled}
-use Rattle.texml_mouth.specs.Mouth.{Spot, Dry, bite, bites, name, word, no_word, word_from, name_from, gives}
+use Rattle.texml_mouth.specs.Mouth.{Spot, Dry, bite, bites, name, word, no_word, word_from, name_from, state_behind, gives}
 use Rattle.texml_mouth.proofs.Looking.{look-front, at_front}
 
 -- a fold at a text whose front is known
@@ -40,14 +40,8 @@ module _ (cats : ℕ → ℕ) (text : List ℕ) (c : ℕ) (tail : List ℕ) (is 
   pub name_word : cats c ≡ 11 → name cats text ≡ gives (Named (c ∷ (word cats tail).letters)) SkippingBlanks (word cats tail).behind
   name_word letter = at_name ∙ (ap (λ w. name_from cats w c tail) (word_letter letter) ∙ rw letter refl)
 
-  pub name_blank : cats c ≡ 10 → name cats text ≡ gives (Named (c ∷ [])) SkippingBlanks tail
-  name_blank blank = at_name ∙ rw blank refl
-
-  pub name_other : (cats c ≡ 11 → ⊥) → (cats c ≡ 10 → ⊥) → name cats text ≡ gives (Named (c ∷ [])) MidLine tail
-  name_other no_letter no_blank =
-      let letter : (cats c == 11) ≡ false = search (rules, nat_tests) in
-      let blank : (cats c == 10) ≡ false = search (rules, nat_tests) in
-      at_name ∙ rw (letter, blank) refl
+  pub name_other : (cats c ≡ 11 → ⊥) → name cats text ≡ gives (Named (c ∷ [])) (state_behind (cats c)) tail
+  name_other other = let test : (cats c == 11) ≡ false = search (rules, nat_tests) in at_name ∙ rw test refl
 
 pub word_end : (cats : ℕ → ℕ) (text : List ℕ) → settled cats text ≡ [] → word cats text ≡ no_word []
 word_end cats text is = look_end cats (no_word []) (word_from cats) text is

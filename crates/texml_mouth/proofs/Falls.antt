@@ -33,15 +33,12 @@ module _ {A : Type 0} (P : ℕ → A → Type 0) (more : (m n : ℕ) (a : A) →
   look_all [] = at_end
   look_all (c ∷ tail) = more _ _ _ (omega arith) (look_at_all c tail)
 
--- a word leaves no more than there was
-WordWithin : ℕ → Word → Type 0
-WordWithin n w = length w.behind ≤ n
-
 word_step : (b : Bool) (n c : ℕ) (tail : List ℕ) (onward : Word) → length onward.behind ≤ length tail
     → length (cond b (record { letters = c ∷ onward.letters; behind = onward.behind }) (no_word (c ∷ tail))).behind ≤ 1 + length tail
 word_step true n c tail onward h = omega arith
 word_step false n c tail onward h = omega arith
 
+-- a word leaves no more than there was
 pub word-behind : (cats : ℕ → ℕ) (text : List ℕ) → length (word cats text).behind ≤ length text
 word-behind cats text =
     look_all (λ n (w : Word). length w.behind ≤ n) (λ m n w le h. omega arith) cats (no_word []) (word_from cats) (omega arith)
@@ -70,8 +67,7 @@ name_falls cats text =
     at : (front : List ℕ) → length front ≤ length text → Falls (1 + length text) (at_front cats (gives (Named []) SkippingBlanks []) (λ c tail onward. name_from cats (word cats text) c tail) front)
     at [] h = omega arith
     at (c ∷ tail) h =
-        falls_test (cats c == 11) _ _ _ (omega (arith, word-behind cats text))
-        (falls_test (cats c == 10) _ _ _ (omega arith) (omega arith))
+        falls_test (cats c == 11) _ _ _ (omega (arith, word-behind cats text)) (omega arith)
 
 line_end_falls : (state : State) (n : ℕ) → Falls (1 + n) (line_end state)
 line_end_falls NewLine n = omega arith

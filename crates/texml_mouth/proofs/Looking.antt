@@ -40,8 +40,6 @@ short_group cats c (d ∷ x ∷ []) le seven same hex low =
 short_group cats c (d ∷ x ∷ y ∷ tail) le seven same hex low =
     let test : nat_lt x 128 ≡ true = search (rules, nat_tests) in rw (is_pair_yes cats c d seven same, hex, test) refl
 
-pub ruleset groups = (long_group, short_group, scalar_below)
-
 -- what a fold makes of a text whose first character is written as it is looked at
 abbrev pub at_front : {A : Type 0} → (ℕ → ℕ) → A → (ℕ → List ℕ → A → A) → List ℕ → A
 at_front cats empty step [] = empty

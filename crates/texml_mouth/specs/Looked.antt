@@ -1,7 +1,8 @@
 -- How the characters of a text are looked at: groups of carets (The TeXbook, chapters 7 and 8).
 use Rattle.std.specs.Prelude.{ℕ, ◌+◌, ◌-◌, ◌*◌, Bool, false, List, [], ◌∷◌, if◌then◌else◌, nat_lt, nat_le, ◌==◌, ◌&&◌, ◌||◌}
+use Rattle.texml_token.specs.declared.category.TheConstants.{SUPERSCRIPT}
 
--- a hexadecimal digit, in small letters
+-- a hexadecimal digit: 0 to 9, or a small letter from a to f
 abbrev pub is_hex_digit : ℕ → Bool
 is_hex_digit x = (nat_le 48 x && nat_le x 57) || (nat_le 97 x && nat_le x 102)
 
@@ -24,7 +25,7 @@ begins_hex (x ∷ y ∷ tail) = is_hex_digit x && is_hex_digit y
 
 -- a group of carets begins with a character of category 7 that stands twice
 abbrev pub is_pair : (ℕ → ℕ) → ℕ → ℕ → Bool
-is_pair cats c d = cats c == 7 && d == c
+is_pair cats c d = cats c == SUPERSCRIPT && d == c
 
 -- a fold over the text that c begins, each character as it is looked at: a group of carets at the front is replaced by what it stands for, which is looked at again
 abbrev pub look_at : {A : Type 0} → (ℕ → ℕ) → A → (ℕ → List ℕ → A → A) → ℕ → List ℕ → A

@@ -1,6 +1,7 @@
 -- The tokens of a line (The TeXbook, chapters 7 and 8).
-use Rattle.std.specs.Prelude.{ℕ, List, [], ◌∷◌, if◌then◌else◌, ◌==◌}
+use Rattle.std.specs.Prelude.{ℕ, List, [], ◌∷◌, if◌then◌else◌, ◌==◌, codes}
 use Rattle.texml_token.specs.Token.{Token, Char, Active, Named}
+use Rattle.texml_token.specs.declared.category.TheConstants.{ESCAPE, END_OF_LINE, IGNORED, SPACE, LETTER, ACTIVE, COMMENT, INVALID}
 use Rattle.texml_mouth.specs.declared.State.{State}
 use Rattle.texml_mouth.specs.declared.State.TheVariants.{NewLine, MidLine, SkippingBlanks}
 use Rattle.texml_mouth.specs.Looked.{look}
@@ -21,11 +22,11 @@ gives t state tail = Gives t (record { state = state; tail = tail })
 
 -- a space token
 abbrev pub space : Token
-space = Char 32 10
+space = Char 32 SPACE
 
 -- the name of a new paragraph
 abbrev pub paragraph : Token
-paragraph = Named (112 ∷ 97 ∷ 114 ∷ [])
+paragraph = Named (codes "par")
 
 -- letters, and the text behind them
 pub record Word : Type 0 where
@@ -38,19 +39,22 @@ no_word behind = record { letters = []; behind = behind }
 -- the word that begins with a letter; another character begins none
 abbrev pub word_from : (ℕ → ℕ) → ℕ → List ℕ → Word → Word
 word_from cats c tail onward =
-    if cats c == 11 then record { letters = c ∷ onward.letters; behind = onward.behind }
+    if cats c == LETTER then record { letters = c ∷ onward.letters; behind = onward.behind }
     else no_word (c ∷ tail)
 
 -- the longest word at the front of a text
 abbrev pub word : (ℕ → ℕ) → List ℕ → Word
 word cats = look cats (no_word []) (word_from cats)
 
+-- the state behind a name of one character that is no letter, by its category
+abbrev pub state_behind : ℕ → State
+state_behind category = if category == SPACE then SkippingBlanks else MidLine
+
 -- the name that begins with a character: the longest word, or a name of one character
 abbrev pub name_from : (ℕ → ℕ) → Word → ℕ → List ℕ → Bite
 name_from cats longest c tail =
-    if cats c == 11 then gives (Named longest.letters) SkippingBlanks longest.behind
-    else if cats c == 10 then gives (Named (c ∷ [])) SkippingBlanks tail
-    else gives (Named (c ∷ [])) MidLine tail
+    if cats c == LETTER then gives (Named longest.letters) SkippingBlanks longest.behind
+    else gives (Named (c ∷ [])) (state_behind (cats c)) tail
 
 -- the name behind an escape character, which is the empty name at the line's end
 abbrev pub name : (ℕ → ℕ) → List ℕ → Bite
@@ -71,13 +75,13 @@ blank SkippingBlanks tail onward = onward
 -- the case table: what a character gives in a state, before the characters left; where it gives nothing, the line goes on
 abbrev pub bite : (ℕ → ℕ) → State → ℕ → List ℕ → Bite → Bite
 bite cats state c tail onward =
-    if cats c == 0 then name cats tail
-    else if cats c == 5 then line_end state
-    else if cats c == 9 then onward
-    else if cats c == 10 then blank state tail onward
-    else if cats c == 13 then gives (Active c) MidLine tail
-    else if cats c == 14 then Dry
-    else if cats c == 15 then Bad c
+    if cats c == ESCAPE then name cats tail
+    else if cats c == END_OF_LINE then line_end state
+    else if cats c == IGNORED then onward
+    else if cats c == SPACE then blank state tail onward
+    else if cats c == ACTIVE then gives (Active c) MidLine tail
+    else if cats c == COMMENT then Dry
+    else if cats c == INVALID then Bad c
     else gives (Char c (cats c)) MidLine tail
 
 -- what the line gives next from a spot on, under these categories

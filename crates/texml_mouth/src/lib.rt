@@ -2,8 +2,8 @@
 //!
 //! A character gets its category at the call that reads it, by an object of the caller. The definitions
 //! of `specs/` say what the line gives next: `Looked` how groups of carets are looked at, and `Mouth`
-//! which token comes. Contract: `Mouth::next` gives exactly the token of `bites`, or answers a character
-//! that may not stand in a text. It stands on `texml_token`.
+//! which token comes. Contract: `Mouth::next` gives exactly the token and the state behind it that `bites`
+//! gives, or answers a character that may not stand there. It stands on `texml_token`.
 #![tactic(auto)]
 
 ghost use Rattle.std.specs.Prelude.{◌≡◌, ℕ, ◌+◌, ◌<◌, ◌≤◌, List, [], ◌∷◌, ◌++◌, length, drop, IsTrue, slice_index, Some, None, Ok, Err, MatchOption, IfSome, IfOk, OnOk, OnErr, option_to_list};
@@ -13,12 +13,12 @@ ghost use Rattle.texml_token.specs.Numbers.{token_at, TokenWithin, Extends, Numb
 ghost use Rattle.texml_token.specs.Token.{Named};
 ghost use Rattle.texml_mouth.specs.declared.State.{State};
 ghost use Rattle.texml_mouth.specs.Looked.{settled, begins_hex, is_hex_digit, hex_value, turned};
-ghost use Rattle.texml_mouth.specs.Mouth.{bites, bite, name, word, line_end, Gives, Dry};
+ghost use Rattle.texml_mouth.specs.Mouth.{bites, bite, name, word, state_behind, line_end, Gives, Dry};
 ghost use Rattle.texml_mouth.specs.Seen.{Bitten, answer_at, table_behind, AnswerWithin, fault_after};
 
 use std::alloc::{AllocError, Global};
 use std::marker::Model;
-use texml_token::{Line, Name, Names, Token, category};
+use texml_token::{Line, Names, Token, category};
 
 // The code of a space token.
 const SPACE: u32 = 32;
@@ -104,9 +104,9 @@ impl Mouth {
 
     /// The next token of the line, or None at its end. A name is given its number in `names`.
     ///
-    /// The characters are looked at with the categories that `codes` has now, and no character behind
-    /// the token and the blanks before it is looked at, but for the one that ends a word (The TeXbook,
-    /// chapters 7 and 8).
+    /// The characters are looked at with the categories that `codes` has at this call (The TeXbook,
+    /// chapters 7 and 8). The text behind a token is left for later calls, but the character that ends
+    /// a word was looked at with it and stays as it was seen.
     ///
     /// # Errors
     ///
@@ -133,21 +133,16 @@ impl Mouth {
         ensures numbered { Numbered names.new }
         ensures given { AnswerWithin (length names.new) result }
     {
-        if let Some(fault) = self.fault {
-            let _given = names.given();
-            return Err(fault);
+        let answer = match self.fault {
+            Some(fault) => Err(fault),
+            None => self.bite(alloc, codes, names),
+        };
+        // The count brings with it that the texts of the table are numbered.
+        let _given = names.given();
+        if let Err(fault) = answer {
+            self.fault = Some(fault);
         }
-        match self.bite(alloc, codes, names) {
-            Ok(token) => {
-                let _given = names.given();
-                Ok(token)
-            }
-            Err(fault) => {
-                let _given = names.given();
-                self.fault = Some(fault);
-                Err(fault)
-            }
-        }
+        answer
     }
 
     // The next token, where no fault is kept.
@@ -219,12 +214,8 @@ impl Mouth {
                 self.go(State::SkippingBlanks);
                 Ok(Some(intern(names, &text)?))
             }
-            category::SPACE => {
-                self.go(State::SkippingBlanks);
-                Ok(Some(named(alloc, names, &[c])?))
-            }
-            _ => {
-                self.go(State::MidLine);
+            category => {
+                self.go(state_behind(category));
                 Ok(Some(named(alloc, names, &[c])?))
             }
         }
@@ -345,6 +336,17 @@ impl Mouth {
     }
 }
 
+// The state behind a name of one character, by its category, where it is no letter.
+fn state_behind(category: u8) -> State
+    ensures { result ≡ state_behind category }
+{
+    if category == category::SPACE {
+        State::SkippingBlanks
+    } else {
+        State::MidLine
+    }
+}
+
 // The name with these characters.
 fn named(alloc: Global, names: &mut Names, text: &[u32]) -> Result<Token, AllocError>
     requires { All IsScalar text.now }
@@ -393,7 +395,6 @@ fn looked_at<C: Codes>(codes: &C, c: u32, behind: &[u32]) -> Looked
 }
 
 // The group of carets that begins a text, if one does.
-#[tactic(auto, using(crate::proofs::Looking::groups))]
 fn group<C: Codes>(codes: &C, c: u32, behind: &[u32]) -> Option<Looked>
     ensures { MatchOption result (settled (C.cats codes.now) (c ∷ behind.now) ≡ c ∷ behind.now)
         (λ group. (1 ≤ group.taken) × (group.taken ≤ length behind.now) × IsScalar group.code
@@ -430,7 +431,7 @@ fn begins_hex(text: &[u32]) -> bool
 fn is_hex_digit(x: u32) -> bool
     ensures { result ≡ is_hex_digit x }
 {
-    (48 <= x && x <= 57) || (97 <= x && x <= 102)
+    matches!(x, 48..=57 | 97..=102)
 }
 
 // The value of a hexadecimal digit.
@@ -449,4 +450,125 @@ fn turned(x: u32) -> u32
     ensures below { result < 128 }
 {
     if x < 64 { x + 64 } else { x - 64 }
+}
+
+#[cfg(test)]
+mod tests {
+    use super::*;
+    use std::test::Fail;
+
+    // The categories that a run starts with.
+    struct Initial;
+
+    impl Codes for Initial {
+        ghost use Rattle.std.specs.Prelude.{◌==◌, ◌||◌, ◌&&◌, nat_le, if◌then◌else◌};
+
+        ghost cats = { λ _ c. if c == 92 then 0 else if c == 123 then 1 else if c == 125 then 2 else if c == 36 then 3 else if c == 38 then 4 else if c == 13 then 5 else if c == 35 then 6 else if c == 94 then 7 else if c == 95 then 8 else if c == 0 then 9 else if c == 32 || c == 9 then 10 else if (nat_le 65 c && nat_le c 90) || (nat_le 97 c && nat_le c 122) then 11 else if c == 126 then 13 else if c == 37 then 14 else if c == 127 then 15 else 12 };
+
+        fn category(&self, code: u32) -> u8 {
+            match code {
+                92 => 0,
+                123 => 1,
+                125 => 2,
+                36 => 3,
+                38 => 4,
+                13 => 5,
+                35 => 6,
+                94 => 7,
+                95 => 8,
+                0 => 9,
+                9 | 32 => 10,
+                65..=90 | 97..=122 => 11,
+                126 => 13,
+                37 => 14,
+                127 => 15,
+                _ => 12,
+            }
+        }
+    }
+
+    // Writes a character, or its code where it isn't printed.
+    fn write_code(into: &mut String, code: u32) -> Result<(), Fail> {
+        match char::from_u32(code) {
+            Some(c) if c.is_ascii_graphic() => into.push(c)?,
+            _ => write!(into, "<{code}>")?,
+        }
+        Ok(())
+    }
+
+    // The tokens of a line, each behind a space.
+    fn tokens(alloc: Global, line: &str) -> Result<String, Fail> {
+        let mut codes = Line::new(alloc);
+        for c in line.chars() {
+            codes.push(c as u32)?;
+        }
+        let mut mouth = Mouth::new(codes);
+        let mut names = Names::new(alloc);
+        let mut written = String::new(alloc);
+        for _ in 0..=line.len() {
+            match mouth.next(alloc, &Initial, &mut names) {
+                Ok(None) => break,
+                Ok(Some(token)) => write_token(&mut written, token, &names)?,
+                Err(fault) => {
+                    write!(written, " {fault:?}")?;
+                    break;
+                }
+            }
+        }
+        Ok(written)
+    }
+
+    fn write_token(into: &mut String, token: Token, names: &Names) -> Result<(), Fail>
+        requires { TokenWithin (length names.now) token }
+    {
+        into.push(' ')?;
+        match token {
+            Token::Char(code, category) => {
+                write_code(into, code)?;
+                write!(into, ":{category}")?;
+            }
+            Token::Active(code) => write_code(into, code)?,
+            Token::Named(name) => {
+                into.push('\\')?;
+                for code in names.text(name) {
+                    write_code(into, *code)?;
+                }
+            }
+        }
+        Ok(())
+    }
+
+    #[test]
+    fn lines(rt: HostRuntime) -> Result<(), Fail> {
+        let rows = [
+            ("a{b}~$&#_1", " a:11 {:1 b:11 }:2 ~ $:3 &:4 #:6 _:8 1:12"),
+            // States.
+            ("  a  b  \r", " a:11 <32>:10 b:11 <32>:10"),
+            ("a\r", " a:11 <32>:10"),
+            (" \r", " \\par"),
+            ("a %b\r", " a:11 <32>:10"),
+            (
+                "a\tb\x0c\0c\u{e9}",
+                " a:11 <32>:10 b:11 <12>:12 c:11 <233>:12",
+            ),
+            ("a\x7f", " a:11 Invalid(127)"),
+            // Names.
+            ("\\ab  c\\d1\\ab", " \\ab c:11 \\d 1:12 \\ab"),
+            ("\\, a\\  a", " \\, <32>:10 a:11 \\<32> a:11"),
+            ("a\\", " a:11 \\"),
+            ("a\\\r", " a:11 \\<13>"),
+            // Groups of carets.
+            ("^^41^^M", " A:11 <32>:10"),
+            ("^^ff^^4G^^4A", " <255>:12 t:11 G:11 t:11 A:11"),
+            ("\\^^41b^^63 \\a^^20x\\^^20x", " \\Abc \\a x:11 \\<32> x:11"),
+            // A result is looked at again.
+            ("^^5e^41", " A:11"),
+            ("^^5e^^41", " <30>:12 4:12 1:12"),
+            ("^^\u{e9}^^", " ^:7 ^:7 <233>:12 ^:7 ^:7"),
+        ];
+        for (line, want) in rows {
+            assert_eq!(rt; tokens(rt.alloc(), line)?.as_str(), want, "of {line}");
+        }
+        Ok(())
+    }
 }

@@ -2,3 +2,4 @@ pub mod Table
 pub mod Translation
 pub mod Same
 pub mod Writing
+pub mod Scalar

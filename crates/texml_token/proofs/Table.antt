@@ -1,5 +1,5 @@
 -- The table of texts, and how it grows.
-use Rattle.std.proofs.Common.{◌≡◌, ◌+◌, ◌≤◌, ◌<◌, ℕ, zero, suc, Bool, true, false, cond, List, [], ◌∷◌, ◌++◌, length, get_or, refl, sym, ap, ◌∙◌, arith, rules, length-append, inl, inr, Decides, true≢false, Some, None}
+use Rattle.std.proofs.Common.{◌≡◌, ◌+◌, ◌≤◌, ◌<◌, ℕ, zero, suc, Bool, true, false, cond, List, [], ◌∷◌, ◌++◌, length, get_or, refl, sym, ap, ◌∙◌, arith, length-append, inl, inr, Decides, true≢false, Some, None}
 use Rattle.std.specs.List.{list_any, position, position_or_len}
 use Rattle.std.proofs.lemmas.Bool.{eq-eqb, ne_eqb, cases_lt, lt-ltb}
 use Rattle.std.proofs.lemmas.Bool.Decides.{Decides-eqb}
@@ -27,6 +27,11 @@ pub text_at_number : (texts : Table) (q : List ℕ) → number_of texts q ≤ le
 text_at_number texts q h =
     text_at_suc texts (number_of texts q) (position_or_len (text_eq q) texts) (omega arith) ∙
     sym ((text-decides q _).0 (passes_at_first (text_eq q) texts [] (omega arith)))
+
+-- two texts with one number that was given are the same
+pub same_text : (texts : Table) (p q : List ℕ) → number_of texts p ≤ length texts → number_of texts p ≡ number_of texts q → p ≡ q
+same_text texts p q h e =
+    sym (text_at_number texts p h) ∙ (ap (text_at texts) e ∙ text_at_number texts q (omega (arith, h, e)))
 
 at_most : (texts : Table) (q : List ℕ) → position_or_len (text_eq q) texts ≤ length texts
 at_most texts q = prefix_len-le-length _ texts

@@ -1,9 +1,9 @@
 -- What tokens by number stand for, as the table grows.
-use Rattle.std.proofs.Common.{◌≡◌, ◌≤◌, ℕ, zero, suc, Bool, true, false, List, [], ◌∷◌, map, length, refl, sym, ap, ap₂, ◌∙◌, arith, nat_eq, true≢false, Decides, rules}
+use Rattle.std.proofs.Common.{◌≡◌, ◌≤◌, ℕ, zero, suc, Bool, true, false, List, [], ◌∷◌, map, length, refl, sym, ap, ap₂, ◌∙◌, arith, nat_eq, true≢false, rules}
 use Rattle.std.specs.List.{All}
 use Rattle.std.proofs.lemmas.Bool.{eq-eqb, ne_eqb}
 use Rattle.std.proofs.lemmas.List.Elements.{All-head, All-tail}
-use Rattle.texml_token.specs.Token.{Token, Char, Active, Named, Fixed, text_eq, token_eq}
+use Rattle.texml_token.specs.Token.{Char, Active, Named, text_eq, token_eq}
 use Rattle.texml_token.specs.Numbers.{Table, text_at, number_of, Numbered, Extends, name_at, token_at, tokens_at, TokenWithin, TokensWithin}
 use Rattle.texml_token.specs.declared.tokens.Token.{Token as TokenCode}
 use Rattle.texml_token.specs.declared.tokens.Token.TheVariants as tokens
@@ -92,3 +92,14 @@ module _ (texts : Table) (g : Numbered texts) where
   pub token_same : (t u : TokenCode) → TokenWithin (length texts) t → TokenWithin (length texts) u → token_at texts t ≡ token_at texts u → t ≡ u
   token_same t u h k e =
       (token-decides t u).0 (sym (tokens_agree t u h k) ∙ (ap (token_eq (token_at texts t)) (sym e) ∙ (tokens_agree t t h h ∙ token_eq_itself t)))
+
+  pub tokens_same : (ts us : List TokenCode) → TokensWithin (length texts) ts → TokensWithin (length texts) us → tokens_at texts ts ≡ tokens_at texts us → ts ≡ us
+  tokens_same [] [] h k e = refl
+  tokens_same [] (u ∷ us) h k e = cc
+  tokens_same (t ∷ ts) [] h k e = cc
+  tokens_same (t ∷ ts) (u ∷ us) h k e =
+      let heads : token_at texts t ≡ token_at texts u = cc in
+      let tails : tokens_at texts ts ≡ tokens_at texts us = cc in
+      ap₂ (λ a b. a ∷ b)
+      (token_same t u (All-head (TokenWithin (length texts)) t ts h) (All-head (TokenWithin (length texts)) u us k) heads)
+      (tokens_same ts us (All-tail (TokenWithin (length texts)) t ts h) (All-tail (TokenWithin (length texts)) u us k) tails)

@@ -74,7 +74,7 @@ impl Bytes {
         self.items.as_slice()
     }
 
-    /// An empty list in the same memory.
+    /// An empty list, whose memory comes from where this one's does.
     pub(crate) fn aside(&self) -> Bytes
         ensures { result ≡ [] }
     {

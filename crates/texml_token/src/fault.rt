@@ -5,12 +5,16 @@ ghost use Rattle.std.specs.Prelude.{◌≡◌};
 use crate::bytes::Bytes;
 use std::alloc::AllocError;
 
-/// A fault of the input: its number, the file and line where it was found, and what it is about.
+/// A fault of the input. A copy of it is equal, and may find no memory.
 #[derive(Debug, Drop, PartialEq, Eq)]
 pub struct Fault {
+    /// The number of the fault.
     pub code: u8,
+    /// The name of the file where it was found.
     pub file: Bytes,
+    /// The number of the line that was read last there.
     pub line: u64,
+    /// What it is about.
     pub about: Bytes,
 }
 

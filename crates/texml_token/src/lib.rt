@@ -21,3 +21,6 @@ pub use line::Line;
 pub use names::Names;
 pub use spelling::{show, spell};
 pub use tokens::{Name, Token, Tokens};
+
+#[cfg(test)]
+mod tests;

@@ -2,7 +2,7 @@
 
 ghost use Rattle.std.specs.Prelude.{◌≡◌, [], ◌∷◌, ◌++◌, if◌then◌else◌, length, encode_utf8_all, OnOk, OnErr};
 ghost use Rattle.std.specs.List.{All};
-ghost use Rattle.std.specs.Char.{IsScalar, encode_utf8, is_ascii_alphabetic};
+ghost use Rattle.std.specs.Char.{IsScalar, encode_utf8};
 ghost use Rattle.texml_token.specs.Spelling.{escape_codes, name_end, shown, shown_code, shown_name, shown_token, spelled, spelled_name};
 ghost use Rattle.texml_token.specs.Numbers.{token_at, tokens_at, TokenWithin, TokensWithin};
 
@@ -26,8 +26,8 @@ pub fn spell(token: Token, escape: i32, names: &Names, into: &mut Bytes) -> Resu
 {
     let mut text = into.aside();
     match token {
-        Token::Char(code, _) => push_code(&mut text, code)?,
-        Token::Active(code) => push_code(&mut text, code)?,
+        Token::Char(code, _) => push_code(code, &mut text)?,
+        Token::Active(code) => push_code(code, &mut text)?,
         Token::Named(name) => spell_name(names.text(name), escape, &mut text)?,
     }
     into.extend(text.as_slice())
@@ -54,15 +54,15 @@ pub fn show(list: &Tokens, names: &Names, into: &mut Bytes) -> Result<(), AllocE
 }
 
 // Appends a character.
-fn push_code(into: &mut Bytes, code: u32) -> Result<(), AllocError>
+fn push_code(code: u32, into: &mut Bytes) -> Result<(), AllocError>
     requires { IsScalar code }
     ensures { OnOk result (into.new ≡ into.old ++ encode_utf8 code) }
 {
     match char::from_u32(code) {
-        None => Ok(()),
-        Some(c) => {
+        None => unreachable!(),
+        Some(character) => {
             let mut buffer = [0; 4];
-            into.extend(c.encode_utf8(&mut buffer).as_bytes())
+            into.extend(character.encode_utf8(&mut buffer).as_bytes())
         }
     }
 }
@@ -76,7 +76,7 @@ fn push_escape(escape: i32, into: &mut Bytes) -> Result<(), AllocError>
     }
     match char::from_u32(escape as u32) {
         None => Ok(()),
-        Some(c) => push_code(into, c as u32),
+        Some(character) => push_code(character as u32, into),
     }
 }
 
@@ -92,7 +92,7 @@ fn spell_name(text: &[u32], escape: i32, into: &mut Bytes) -> Result<(), AllocEr
         return into.extend(b"endcsname");
     }
     for code in text {
-        push_code(into, *code)?;
+        push_code(*code, into)?;
     }
     Ok(())
 }
@@ -121,7 +121,7 @@ fn show_code(code: u32, into: &mut Bytes) -> Result<(), AllocError>
     if code == 127 {
         return into.extend(b"^^?");
     }
-    push_code(into, code)
+    push_code(code, into)
 }
 
 // Appends how a name is shown.
@@ -145,14 +145,7 @@ fn ends_with_space(text: &[u32]) -> bool
 {
     match text {
         [] => false,
-        [code] => is_letter(*code),
+        [code] => char::from_u32(*code).is_some_and(|character| character.is_ascii_alphabetic()),
         _ => true,
     }
-}
-
-// Whether a code is that of an ASCII letter.
-fn is_letter(code: u32) -> bool
-    ensures { result ≡ is_ascii_alphabetic code }
-{
-    (65..=90).contains(&code) || (97..=122).contains(&code)
 }

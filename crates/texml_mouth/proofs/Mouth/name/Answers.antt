@@ -2,7 +2,7 @@ use Rattle.std.proofs.Common.{◌≡◌, [], arith, sym, ◌∙◌, ap}
 use Rattle.texml_token.specs.Token.{Named}
 use Rattle.texml_mouth.specs.declared.State.TheVariants.{SkippingBlanks}
 use Rattle.texml_mouth.specs.Mouth.{gives}
-use Rattle.texml_mouth.proofs.Biting.{name_word, name_blank, name_other, name_end}
+use Rattle.texml_mouth.proofs.Biting.{name_word, name_other, name_end}
 use Rattle.texml_mouth.proofs.Mouth.name.Goals as goal
 
 pub returns-in_default-clause-bites : goal.returns-in_default-clause-bites
@@ -14,13 +14,8 @@ returns-in_ok-intern-in-11-clause-bites g c =
     rw (c.in_ok-intern-in-11.ensures.token, c.go-in-11.ensures, c.in_ok-take_letters-in-11.ensures.letters, c.in_ok-take_letters-in-11.ensures.behind, c.in_ok-text-in-11.ensures)
     (name_word (g.C.Codes.cats c.args.codes.now) _ _ _ c.in-Some.ensures.first (sym c.category.ensures.value ∙ c.in-11.is))
 
-pub returns-in_ok-named-in-10-clause-bites : goal.returns-in_ok-named-in-10-clause-bites
-returns-in_ok-named-in-10-clause-bites g c =
-    rw (c.in_ok-named-in-10.ensures.token, c.go-in-10.ensures) (name_blank (g.C.Codes.cats c.args.codes.now) _ _ _ c.in-Some.ensures.first (sym c.category.ensures.value ∙ c.in-10.is))
-
 pub returns-in_ok-named-in_default-category-clause-bites : goal.returns-in_ok-named-in_default-category-clause-bites
 returns-in_ok-named-in_default-category-clause-bites g c =
-    rw (c.in_ok-named-in_default-category.ensures.token, c.go-in_default-category.ensures)
+    rw (c.in_ok-named-in_default-category.ensures.token, c.go-in_default-category.ensures, c.state_behind.ensures, c.category.ensures.value)
     (name_other (g.C.Codes.cats c.args.codes.now) _ _ _ c.in-Some.ensures.first
-    (λ is. let e : c.category.result ≡ 11 = c.category.ensures.value ∙ is in omega arith)
-    (λ is. let e : c.category.result ≡ 10 = c.category.ensures.value ∙ is in omega arith))
+    (λ is. let e : c.category.result ≡ 11 = c.category.ensures.value ∙ is in omega arith))

@@ -1,4 +1,4 @@
-use Rattle.std.proofs.Common.{◌≡◌, ◌++◌, take, encode_utf8_all}
+use Rattle.std.proofs.Common.{◌≡◌, take, encode_utf8_all}
 use Rattle.std.specs.List.{flat_map}
 use Rattle.texml_token.specs.Spelling.{shown_token}
 use Rattle.texml_token.specs.Numbers.{token_at}

@@ -3,7 +3,7 @@ use Rattle.std.specs.List.{All, position}
 use Rattle.std.specs.Char.{IsScalar}
 use Rattle.std.proofs.lemmas.List.Elements.{All-push}
 use Rattle.texml_token.specs.Token.{text_eq}
-use Rattle.texml_token.specs.Numbers.{Numbered, TextsAreScalar, Extends, number_of, with_text}
+use Rattle.texml_token.specs.Numbers.{Numbered, TextsAreScalar, number_of, with_text}
 use Rattle.texml_token.proofs.Table.{text_found, with_found, with_missing, number_missing, numbered_missing}
 use Rattle.texml_token.proofs.names.Names.intern.Goals as goal
 
@@ -25,7 +25,7 @@ returns-in-Some-clause-is c = with_found c.args.self.now c.args.text.now c.in-So
 pub invariant_of-self-2 : goal.invariant_of-self-2
 invariant_of-self-2 c =
     let both : Numbered (c.self.inside.texts.items ++ c.args.text.now ∷ []) × TextsAreScalar (c.self.inside.texts.items ++ c.args.text.now ∷ []) =
-        (numbered_missing _ _ (missing c) c.self.invariant.0, All-push (All IsScalar) _ _ c.self.invariant.1 c.requires) in
+    (numbered_missing _ _ (missing c) c.self.invariant.0, All-push (All IsScalar) _ _ c.self.invariant.1 c.requires) in
     subst (λ texts. Numbered texts × TextsAreScalar texts) (sym (pushed c)) both
 
 pub returns-clause-number : goal.returns-clause-number
