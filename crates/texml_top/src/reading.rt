@@ -11,11 +11,11 @@ ghost use Rattle.texml_top.specs.Reading.{material_of, of_rest, of_lines, joined
 ghost use Rattle.texml_mouth.specs.declared.State.TheVariants.{NewLine};
 
 use crate::codes::InitialCodes;
-use texml_text::{chars_of, drop_mark, load, next_line};
 use crate::material::Material;
 use crate::status::Status;
 use std::alloc::Global;
 use texml_mouth::{Mouth, MouthFault};
+use texml_text::{chars_of, drop_mark, load, next_line};
 use texml_token::{Bytes, Line, Names, Token, category, spell};
 
 const PAR: [u32; 3] = [112, 97, 114];
@@ -36,7 +36,13 @@ pub fn read_text(alloc: Global, file: &str, text: &str) -> Result<Vec<Material>,
     let mut names = Names::new(alloc);
     let mut material = Vec::new(alloc);
     while let Some((line, more)) = next_line(rest) {
-        read_line(alloc, file, load(alloc, line, Some(END_CHARACTER))?, &mut names, &mut material)?;
+        read_line(
+            alloc,
+            file,
+            load(alloc, line, Some(END_CHARACTER))?,
+            &mut names,
+            &mut material,
+        )?;
         rest = more;
     }
     Ok(material)
