@@ -1,5 +1,5 @@
 -- Pieces that a sink takes one after the other.
-use Rattle.std.proofs.Common.{◌≡◌, ℕ, zero, suc, List, [], ◌∷◌, ◌++◌, length, take, Result, Ok, Err, None, Some, refl, ap, ◌∙◌, append_assoc, length-append, arith}
+use Rattle.std.proofs.Common.{◌≡◌, ℕ, zero, suc, List, [], ◌∷◌, ◌++◌, length, take, Result, Ok, Err, None, Some, refl, ap, ◌∙◌, append_assoc, append-nil, length-append, arith}
 use Rattle.std.specs.declared.option.Option.{Option}
 use Rattle.std.specs.Option.{option_map}
 use Rattle.texml_base.specs.Outside.{Ink, inked, Takes}
@@ -19,6 +19,20 @@ pub inked-append : (ink : Ink) (a b : List ℕ) → inked (inked ink a) b ≡ in
 inked-append ink a b =
     ap (λ o. let i : Ink = record { bytes = o; count = (inked (inked ink a) b).count } in i) (bytes_twice ink.bytes a b)
     ∙ ap (λ o. let i : Ink = record { bytes = (inked ink (a ++ b)).bytes; count = o } in i) (count_twice ink.count a b)
+
+bytes_kept : (o : Option (List ℕ)) → option_map (λ xs. xs ++ []) o ≡ o
+bytes_kept None = refl
+bytes_kept (Some xs) = ap (λ l. Some l) (append-nil xs)
+
+count_kept : (o : Option ℕ) → option_map (λ n. add_up n 0) o ≡ o
+count_kept None = refl
+count_kept (Some n) = let same : add_up n 0 ≡ n = omega arith in ap (λ m. Some m) same
+
+-- no more bytes change nothing
+pub inked-nil : (ink : Ink) → inked ink [] ≡ ink
+inked-nil ink =
+    ap (λ o. let i : Ink = record { bytes = o; count = (inked ink []).count } in i) (bytes_kept ink.bytes)
+    ∙ ap (λ o. let i : Ink = record { bytes = ink.bytes; count = o } in i) (count_kept ink.count)
 
 -- the front of a front
 pub cut_short : (n : ℕ) (a b : List ℕ) → (m : ℕ) × (take n a ≡ take m (a ++ b))

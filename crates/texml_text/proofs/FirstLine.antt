@@ -4,6 +4,7 @@ use Rattle.std.proofs.lemmas.Bool.{eq-eqb, ne_eqb, cases_eq, eqb-true, eqb-false
 use Rattle.std.specs.List.{position, position_or_len}
 use Rattle.std.proofs.lemmas.List.Sums.{fails_before_first}
 use Rattle.std.proofs.lemmas.List.Quantifiers.{position-Some}
+use Rattle.std.proofs.Math.ListN.{drop_of_length-le}
 use Rattle.std.proofs.Math.Seq.{drop-cons, take-suc, take-nil}
 use Rattle.std.specs.Str.Lines.{strip_carriage_return}
 use Rattle.texml_text.specs.Lines.{lines, onto_first, starts_with_feed, trim_end}
@@ -131,6 +132,19 @@ trimmed_last xs (suc n) p lt e =
     let f : get_or xs n 0 ≢ 32 = rw same at e in
     sym (trim_end-last xs n (omega arith) f)
 
+-- behind the last line there is nothing
+pub behind_last : (xs : List ℕ) → [] ≡ drop (length xs - 0) xs
+behind_last xs = sym (drop_of_length-le xs (omega arith))
+
+-- behind a line feed stands the end of the text
+pub behind_feed : (xs : List ℕ) (i : ℕ) → position (λ c. c == 10) xs ≡ Some i
+    → take (length xs - (i + 1)) (drop (i + 1) xs) ≡ drop (length xs - length (take (length xs - (i + 1)) (drop (i + 1) xs))) xs
+behind_feed xs i e =
+    let at = position-Some (λ c. c == 10) xs i 0 e in
+    let whole : take (length xs - (i + 1)) (drop (i + 1) xs) ≡ drop (i + 1) xs = take_all (length xs - (i + 1)) (drop (i + 1) xs) (omega (arith, length-drop (i + 1) xs)) in
+    let same : i + 1 ≡ length xs - length (drop (i + 1) xs) = omega (arith, at.0, length-drop (i + 1) xs) in
+    subst (λ s. s ≡ drop (length xs - length s) xs) (sym whole) (ap (λ n. drop n xs) same)
+
 pub ruleset trimmed = (trimmed_less, trimmed_last)
 
-pub ruleset first_line = (first_line_all, first_line_feed)
+pub ruleset first_line = (first_line_all, first_line_feed, behind_last, behind_feed)

@@ -1,5 +1,5 @@
 //! The lines of a text.
-ghost use Rattle.std.specs.Prelude.{◌≡◌, ◌∷◌, ◌<◌, ◌==◌, [], length, position, MatchOption, IfOk};
+ghost use Rattle.std.specs.Prelude.{◌≡◌, ◌∷◌, ◌<◌, ◌-◌, ◌==◌, [], length, drop, position, MatchOption, IfSome, IfOk};
 ghost use Rattle.texml_text.specs.Lines.{lines, loaded, trim_end, without_mark};
 ghost use Rattle.std.specs.Char.{IsScalar};
 ghost use Rattle.std.specs.List.{All};
@@ -9,12 +9,13 @@ ghost use Rattle.std.specs.Str.Lines.{strip_carriage_return};
 use std::alloc::{AllocError, Global};
 use texml_token::Line;
 
-/// The first line of a text, and what follows it, or `None` where the text is empty. A line ends at a line feed; a
+/// The first line of a text, and the end of the text that follows it, or `None` where the text is empty. A line ends at a line feed; a
 /// carriage return just before that goes.
 #[tactic(auto, using(crate::proofs::FirstLine::first_line))]
 pub fn next_line(text: &[char]) -> Option<(&[char], &[char])>
     ensures line { MatchOption result (lines text.now ≡ []) (λ p. lines text.now ≡ p.0.now ∷ lines p.1.now) }
     ensures falls { MatchOption result (text.now ≡ []) (λ p. length p.1.now < length text.now) }
+    ensures behind { IfSome result (λ p. p.1.now ≡ drop (length text.now - length p.1.now) text.now) }
 {
     if text.is_empty() {
         return None;

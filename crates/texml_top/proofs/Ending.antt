@@ -1,9 +1,8 @@
 -- How a conversion and a run may end.
-use Rattle.std.proofs.Common.{◌≡◌, ◌≢◌, ℕ, List, [], Result, Ok, Err, None, Some, refl, sym, ap, ◌∙◌, arith, ◌++◌, append-nil}
-use Rattle.std.specs.Option.{option_map}
+use Rattle.std.proofs.Common.{◌≡◌, ◌≢◌, ℕ, List, [], Result, Ok, Err, refl, sym, ap, ◌∙◌}
 use Rattle.std.specs.declared.option.Option.{Option}
 use Rattle.texml_base.specs.Outside.{Ink, inked}
-use Rattle.texml_base.specs.Rising.{add_up}
+use Rattle.texml_base.proofs.Taking.{inked-nil}
 use Rattle.texml_top.specs.Outcome.{written, asked_outcome, outcome, converted}
 use Rattle.texml_top.specs.Faults.{fault, IsFault, IsRefusal}
 use Rattle.texml_top.specs.Words.{asked}
@@ -29,20 +28,6 @@ refusal_carried part all (Tex f) carried h = carried (Tex f) h
 refusal_carried part all ReadFault carried h = h
 refusal_carried part all WriteFault carried h = h
 refusal_carried part all NoMemory carried h = tt
-
-kept_bytes : (o : Option (List ℕ)) → option_map (λ xs. xs ++ []) o ≡ o
-kept_bytes None = refl
-kept_bytes (Some xs) = ap (λ l. Some l) (append-nil xs)
-
-kept_count : (o : Option ℕ) → option_map (λ n. add_up n 0) o ≡ o
-kept_count None = refl
-kept_count (Some n) = let same : add_up n 0 ≡ n = omega arith in ap (λ m. Some m) same
-
--- nothing more is nothing more
-pub inked-nil : (ink : Ink) → inked ink [] ≡ ink
-inked-nil ink =
-    ap (λ b. let i : Ink = record { bytes = b; count = option_map (λ n. add_up n 0) ink.count } in i) (kept_bytes ink.bytes)
-    ∙ ap (λ n. let i : Ink = record { bytes = ink.bytes; count = n } in i) (kept_count ink.count)
 
 -- what is not done has no bytes
 no_bytes : (r : Result (List ℕ) Status) → (written r).status ≢ Done → (written r).bytes ≡ []

@@ -3,7 +3,7 @@ use Rattle.std.proofs.Common.{◌≡◌, ℕ, zero, suc, ◌<◌, List, [], ◌�
 use Rattle.texml_token.specs.Token.{Token}
 use Rattle.texml_mouth.specs.Mouth.{Spot, Bite, Gives, Dry, Bad, bites}
 use Rattle.texml_mouth.proofs.Falls.{bites_lower}
-use Rattle.texml_top.specs.Categories.{initial_category}
+use Rattle.texml_expand.specs.Categories.{initial_category}
 use Rattle.texml_top.specs.Faults.{invalid}
 use Rattle.texml_top.specs.Reading.{material_of, onto, joined, with_rest, of_tokens, of_rest, of_line, of_lines}
 use Rattle.texml_top.specs.declared.material.Material.{Material}

@@ -3,7 +3,7 @@ use Rattle.std.specs.Prelude.{ℕ, zero, suc, ◌==◌, ◌||◌, Bool, List, []
 use Rattle.texml_token.specs.Token.{Token, Char, Active, Named, Fixed, text_eq}
 use Rattle.texml_mouth.specs.Mouth.{Spot, Bite, Gives, Dry, Bad, bites}
 use Rattle.texml_mouth.specs.declared.State.TheVariants.{NewLine}
-use Rattle.texml_top.specs.Categories.{initial_category}
+use Rattle.texml_expand.specs.Categories.{initial_category}
 use Rattle.texml_top.specs.Faults.{undefined, misplaced, invalid}
 use Rattle.texml_text.specs.Lines.{loaded}
 use Rattle.texml_top.specs.declared.material.Material.{Material}

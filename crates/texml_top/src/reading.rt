@@ -10,10 +10,10 @@ ghost use Rattle.texml_top.specs.Faults.{IsFault, IsRefusal};
 ghost use Rattle.texml_top.specs.Reading.{material_of, of_rest, of_lines, joined};
 ghost use Rattle.texml_mouth.specs.declared.State.TheVariants.{NewLine};
 
-use crate::codes::InitialCodes;
 use crate::material::Material;
 use crate::status::Status;
 use std::alloc::Global;
+use texml_expand::InitialCodes;
 use texml_mouth::{Mouth, MouthFault};
 use texml_text::{chars_of, drop_mark, load, next_line};
 use texml_token::{Bytes, Line, Names, Token, category, spell};

@@ -1,11 +1,11 @@
-// The categories that a run starts with.
+//! The categories that a run starts with.
 ghost use Rattle.std.specs.Prelude.{◌≡◌};
-ghost use Rattle.texml_top.specs.Categories.{initial_category};
+ghost use Rattle.texml_expand.specs.Categories.{initial_category};
 
 use texml_mouth::Codes;
 use texml_token::category;
 
-// The categories of plain TeX's format-free start, and some of plain TeX's own (The TeXbook, chapter 7).
+/// The categories that a run starts with (The TeXbook, chapter 7).
 #[derive(Clone, Copy, Debug)]
 pub struct InitialCodes;
 

@@ -1,0 +1,48 @@
+-- The one answer of fetching, and the equation that it meets. The proofs of code speak of these.
+use Rattle.std.proofs.Common.{◌≡◌, ◌+◌, ◌-◌, ℕ, zero, suc, Option, sym, ◌∙◌, subst, arith}
+use Rattle.texml_token.specs.Token.{Token}
+use Rattle.texml_expand.specs.State.{State, Answer, IsDecided}
+use Rattle.texml_expand.specs.Expand.{Calls, fetch_by, level, fetches}
+use Rattle.texml_expand.specs.Contract.{Gives}
+use Rattle.texml_expand.proofs.Order.{GrowsCalls, Mono, fetches_mono, fetch_grows}
+use Rattle.texml_expand.proofs.Settle.{settles}
+
+-- two depths that decide agree
+pub agree : {A : Type 0} (r : ℕ → Answer A) → Mono r → (n m : ℕ) → IsDecided (r n) → IsDecided (r m) → r n ≡ r m
+agree r mono n m d e = sym ((mono.grows n (n + m) (omega arith)).same d) ∙ (mono.grows m (n + m) (omega arith)).same e
+
+-- a depth that decides
+depth : State → ℕ
+depth s = suc (s.limit - s.begun)
+
+pub total : Calls
+total = record { fetch = λ s. fetches s (depth s) }
+
+decides : (s : State) → IsDecided (fetches s (depth s))
+unfolding depth
+decides s = settles (s.limit - s.begun) s (omega arith)
+
+pub fetch_decided : (s : State) → IsDecided (total.fetch s)
+unfolding total
+fetch_decided s = decides s
+
+pub level_total : (n : ℕ) → GrowsCalls (level n) total
+unfolding total
+level_total n = record { fetch = λ s. record { same = λ d. agree (fetches s) (fetches_mono s) (depth s) n (decides s) d } }
+
+fetch_at : (n : ℕ) (s : State) → IsDecided (fetches s n) → fetches s n ≡ fetch_by total s
+fetch_at zero s d = absurd d
+fetch_at (suc n) s d = sym ((fetch_grows (level n) total (level_total n) s).same d)
+
+-- fetching is its own step
+pub fetch_is : (s : State) → total.fetch s ≡ fetch_by total s
+unfolding total
+fetch_is s = fetch_at (depth s) s (decides s)
+
+-- what some depth gives is the answer, and the answer is what some depth gives
+pub gives_fetch : (s : State) (a : Answer (Option Token)) → total.fetch s ≡ a → Gives (fetches s) a
+unfolding total
+gives_fetch s a e = record { depth = depth s; is = e; decided = subst IsDecided e (decides s) }
+
+pub fetch_given : (s : State) (a : Answer (Option Token)) → Gives (fetches s) a → total.fetch s ≡ a
+fetch_given s a g = ((level_total g.depth).fetch s).same (subst IsDecided (sym g.is) g.decided) ∙ g.is

@@ -1,0 +1,91 @@
+-- What a call of the engine does, by a definition's answer.
+use Rattle.std.specs.Prelude.{◌≡◌, ◌+◌, ◌<◌, ◌≤◌, ℕ, List, Option, Some, None, Result, Ok, Err}
+use Rattle.texml_base.specs.Rising.{Rose}
+use Rattle.texml_expand.specs.declared.stop.Stop.{Stop}
+use Rattle.texml_expand.specs.declared.stop.Stop.TheVariants as stop
+use Rattle.texml_expand.specs.Rest.{size, Place}
+use Rattle.texml_expand.specs.State.{State, Tex, Limit, nothing, Answer, Done, Ended, IsDecided, fault_at}
+
+-- some depth decides, and gives this
+pub record Gives {A : Type 0} (reading : ℕ → Answer A) (answer : Answer A) : Type 0 where
+  pub depth : ℕ
+  pub is : reading depth ≡ answer
+  pub decided : IsDecided answer
+
+-- the stop that is kept behind an answer
+abbrev pub stop_after : {A : Type 0} → Result A Stop → Option Stop
+stop_after (Ok v) = None
+stop_after (Err e) = Some e
+
+-- the counts of faults of what is outside: of the files, and of who is told
+pub record Outside : Type 0 where
+  pub read_faults : ℕ
+  pub tell_faults : ℕ
+
+abbrev pub outside : ℕ → ℕ → Outside
+outside reads tells = record { read_faults = reads; tell_faults = tells }
+
+-- a failure is blamed only where a count rose
+abbrev pub Because : {A : Type 0} → Result A Stop → Outside → Outside → Type 0
+Because (Ok v) old new = Unit {0}
+Because (Err (stop.Tex f)) old new = Unit {0}
+Because (Err (stop.Limit n)) old new = Unit {0}
+Because (Err stop.ReadFailed) old new = Rose old.read_faults new.read_faults
+Because (Err stop.TellFailed) old new = Rose old.tell_faults new.tell_faults
+Because (Err stop.NoMemory) old new = Unit {0}
+
+-- counts of faults don't fall, and one rose where reading or telling is blamed; the stop is kept
+pub record Stops {A : Type 0} (result : Result A Stop) (old new : Outside) (kept_stop : Option Stop) : Type 0 where
+  pub kept : kept_stop ≡ stop_after result
+  pub reads : old.read_faults ≤ new.read_faults
+  pub tells : old.tell_faults ≤ new.tell_faults
+  pub because : Because result old new
+
+-- an answer without gains: the value and the state behind it, or the end
+abbrev pub Silent : {A : Type 0} → Answer A → Result A Stop → State → Type 0
+Silent answer (Ok v) s = answer ≡ Done v s nothing
+Silent answer (Err (stop.Tex f)) s = answer ≡ Ended (Tex f) nothing
+Silent answer (Err (stop.Limit n)) s = answer ≡ Ended (Limit n) nothing
+Silent answer (Err stop.ReadFailed) s = Unit {0}
+Silent answer (Err stop.TellFailed) s = Unit {0}
+Silent answer (Err stop.NoMemory) s = Unit {0}
+
+-- for the copy of a fault memory may be refused
+abbrev pub MayLackMemory : Stop → Type 0
+MayLackMemory (stop.Tex f) = Unit {0}
+MayLackMemory (stop.Limit n) = ⊥
+MayLackMemory stop.ReadFailed = ⊥
+MayLackMemory stop.TellFailed = ⊥
+MayLackMemory stop.NoMemory = Unit {0}
+
+-- a stopped engine answers the stop that it keeps
+abbrev pub AnswersKept : {A : Type 0} → Stop → Result A Stop → Type 0
+AnswersKept kept (Ok v) = ⊥
+AnswersKept kept (Err (stop.Tex f)) = kept ≡ stop.Tex f
+AnswersKept kept (Err (stop.Limit n)) = kept ≡ stop.Limit n
+AnswersKept kept (Err stop.ReadFailed) = kept ≡ stop.ReadFailed
+AnswersKept kept (Err stop.TellFailed) = kept ≡ stop.TellFailed
+AnswersKept kept (Err stop.NoMemory) = MayLackMemory kept
+
+-- this fault at the place, or want of memory
+abbrev pub IsFaultAt : ℕ → List ℕ → Place → Stop → Type 0
+IsFaultAt code about place (stop.Tex f) = f ≡ fault_at code about place
+IsFaultAt code about place (stop.Limit n) = ⊥
+IsFaultAt code about place stop.ReadFailed = ⊥
+IsFaultAt code about place stop.TellFailed = ⊥
+IsFaultAt code about place stop.NoMemory = Unit {0}
+
+-- t comes after s, and where no expansion began there is less left to read by k
+pub record Lower (k : ℕ) (s t : State) : Type 0 where
+  pub limit : t.limit ≡ s.limit
+  pub nesting : t.nesting ≡ s.nesting
+  pub begun : s.begun ≤ t.begun
+  pub size : t.begun ≡ s.begun → size t.rest + k ≤ size s.rest
+  pub below : s.begun < t.begun → s.begun < s.limit
+
+-- an expansion began between s and t
+pub record Begins (s t : State) : Type 0 where
+  pub limit : t.limit ≡ s.limit
+  pub nesting : t.nesting ≡ s.nesting
+  pub begun : s.begun < t.begun
+  pub below : s.begun < s.limit

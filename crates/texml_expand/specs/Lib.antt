@@ -1,0 +1,10 @@
+pub mod Categories
+pub mod Rest
+pub mod Next
+pub mod Sources
+pub mod Turning
+pub mod State
+pub mod Expand
+pub mod Held
+pub mod Contract
+pub mod Lending

@@ -1,0 +1,101 @@
+-- A state of the engine, and what a reading answers from one.
+use Rattle.std.specs.Prelude.{ℕ, List, [], ◌∷◌, ◌++◌, Option, Some}
+use Rattle.texml_token.specs.Token.{Token}
+use Rattle.texml_token.specs.declared.fault.Fault.{Fault}
+use Rattle.texml_scope.specs.Texts.{World}
+use Rattle.texml_watch.specs.declared.record.Record.{Record}
+use Rattle.texml_expand.specs.Categories.{initial_category}
+use Rattle.texml_expand.specs.Rest.{Item, Place}
+
+-- what names mean, what is still to be read, the expansions begun, their limit, how many are open, and the place of the line last loaded
+pub record State : Type 0 where
+  pub world : World
+  pub rest : List (Item Token)
+  pub begun : ℕ
+  pub limit : ℕ
+  pub nesting : ℕ
+  pub place : Place
+
+-- the categories and the end character of a world; no command changes them yet
+abbrev pub cats_of : World → ℕ → ℕ
+cats_of w = initial_category
+
+abbrev pub end_of : World → Option ℕ
+end_of w = Some 13
+
+-- what ends a run early: a fault of the text, or the limit
+pub data End : Type 0 where
+  Tex : Fault → End
+  Limit : ℕ → End
+
+-- the fault of this number at the place of the line last loaded
+abbrev pub fault_at : ℕ → List ℕ → Place → Fault
+fault_at code about place = record { code = code; file = place.file; line = place.line; about = about }
+
+-- what a reading adds: the records of the expansions that were completed in it
+pub record Gains : Type 0 where
+  pub records : List Record
+
+abbrev pub nothing : Gains
+nothing = record { records = [] }
+
+-- these and then those
+infixr 5 ◌⊕◌
+abbrev pub ◌⊕◌ : Gains → Gains → Gains
+◌⊕◌ a b = record { records = a.records ++ b.records }
+
+-- a value, the state behind it and what was added; or an end, with what was added before it;
+-- or no end yet, where a definition may look no deeper, with what was added until there
+pub data Answer (A : Type 0) : Type 0 where
+  Done : A → State → Gains → Answer A
+  Ended : End → Gains → Answer A
+  Unfinished : Gains → Answer A
+
+-- what is read from a state
+abbrev pub Reading : Type 0 → Type 0
+Reading A = State → Answer A
+
+-- an answer with gains before its own
+abbrev pub after : {A : Type 0} → Gains → Answer A → Answer A
+after gains (Done a s more) = Done a s (gains ⊕ more)
+after gains (Ended e more) = Ended e (gains ⊕ more)
+after gains (Unfinished more) = Unfinished (gains ⊕ more)
+
+-- what follows a value goes on from the state behind it; an end stays
+abbrev pub chain : {A B : Type 0} → Answer A → (A → Reading B) → Answer B
+chain (Done a s gains) next = after gains (next a s)
+chain (Ended e gains) next = Ended e gains
+chain (Unfinished gains) next = Unfinished gains
+
+-- one reading after the other, as 'do' writes it
+infixl 10 ◌>>=◌
+abbrev pub ◌>>=◌ : {A B : Type 0} → Reading A → (A → Reading B) → Reading B
+◌>>=◌ first next s = chain (first s) next
+
+abbrev pub ◌>>◌ : {A B : Type 0} → Reading A → Reading B → Reading B
+◌>>◌ first next s = chain (first s) (λ _. next)
+
+-- a value, and nothing is read
+abbrev pub give : {A : Type 0} → A → Reading A
+give a s = Done a s nothing
+
+-- a fault at the place of the line last loaded
+abbrev pub fail : {A : Type 0} → ℕ → List ℕ → Reading A
+fail code about s = Ended (Tex (fault_at code about s.place)) nothing
+
+abbrev pub change : (State → State) → Reading (Unit {0})
+change f s = Done tt (f s) nothing
+
+abbrev pub tell : Record → Reading (Unit {0})
+tell row s = Done tt s (record { records = row ∷ [] })
+
+-- what was added
+abbrev pub added : {A : Type 0} → Answer A → Gains
+added (Done a s gains) = gains
+added (Ended e gains) = gains
+added (Unfinished gains) = gains
+
+abbrev pub IsDecided : {A : Type 0} → Answer A → Type 0
+IsDecided (Done a s gains) = Unit {0}
+IsDecided (Ended e gains) = Unit {0}
+IsDecided (Unfinished gains) = ⊥

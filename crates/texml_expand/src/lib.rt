@@ -1,0 +1,20 @@
+//! The engine that reads and, once that is built, expands tokens.
+//!
+//! An engine holds what names mean and what is still to be read. It stands for a state of the definitions in specs/, in
+//! which a name is its text. The contract in a sentence: each call takes it from a state to the state and the value that a
+//! definition gives, or stops it for a reason that the contract names, and a stopped engine answers its stop from then on.
+//! It stands on texml_base, texml_token, texml_text, texml_mouth, texml_scope and texml_watch.
+#![tactic(auto)]
+
+mod codes;
+mod engine;
+mod rest;
+mod stop;
+
+pub use codes::InitialCodes;
+pub use engine::Engine;
+pub use rest::Read;
+pub use stop::Stop;
+
+#[cfg(test)]
+mod engine_tests;

@@ -1,0 +1,5 @@
+pub mod Same
+pub mod Looks
+pub mod Groups
+pub mod Texts
+pub mod Covering

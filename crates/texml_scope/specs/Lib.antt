@@ -1,0 +1,5 @@
+pub mod Groups
+pub mod World
+pub mod Texts
+pub mod Numbers
+pub mod Builtins

@@ -1,0 +1,4 @@
+pub mod Trace
+pub mod Telling
+pub mod Writing
+pub mod Lending
