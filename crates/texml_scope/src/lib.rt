@@ -7,12 +7,12 @@
 //! (names and tokens).
 #![tactic(auto)]
 
-mod builtins;
+pub mod builtins;
 mod scope;
 mod table;
 mod values;
 
-pub use builtins::builtin;
+pub use builtins::{builtin, first_scope};
 pub use scope::{GroupKind, Scope, ScopeFault};
 pub use values::{Key, Macro, Meaning, Value, copied};
 

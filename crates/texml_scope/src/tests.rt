@@ -1,7 +1,7 @@
 use super::*;
 use std::test::Fail;
 use texml_base::Steps;
-use texml_token::{Token, Tokens};
+use texml_token::{Line, Names, Token, Tokens};
 
 #[test]
 fn local_value_ends_with_its_group(rt: HostRuntime) -> Result<(), Fail> {
@@ -44,5 +44,25 @@ fn macros_are_copied(rt: HostRuntime) -> Result<(), Fail> {
 fn builtins_have_their_places(rt: HostRuntime) {
     assert_eq!(rt; builtin(&[114, 101, 108, 97, 120]), Some(28), "relax");
     assert_eq!(rt; builtin(&[100, 101, 102]), Some(29), "def");
+    assert_eq!(rt; builtin(&[112, 97, 114]), Some(74), "par");
     assert_eq!(rt; builtin(&[108, 101, 116]), None, "let is not built");
+}
+
+#[test]
+fn run_starts_with_the_builtins(rt: HostRuntime) -> Result<(), Fail> {
+    let alloc = rt.alloc();
+    let mut names = Names::new(alloc);
+    let scope = first_scope(alloc, &mut names)?;
+    let par = names.intern(&Line::from_slice(alloc, &[112, 97, 114])?)?;
+    assert_eq!(rt;
+        scope.get(&Key::Name(par))?,
+        Value::Means(Meaning::Builtin(74))
+    );
+    let other = names.intern(&Line::from_slice(alloc, &[108, 101, 116])?)?;
+    assert_eq!(rt;
+        scope.get(&Key::Name(other))?,
+        Value::Means(Meaning::Undefined),
+        "let is not built"
+    );
+    Ok(())
 }
