@@ -3,3 +3,4 @@ pub mod Looks
 pub mod Groups
 pub mod Texts
 pub mod Covering
+pub mod OfKind

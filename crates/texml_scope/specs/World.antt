@@ -1,6 +1,7 @@
 -- The world that a scope stands for. Names are numbers in it, as they are in the code.
 use Rattle.std.specs.Prelude.{◌≤◌, ℤ, Bool, List, [], map, Option, None, Some, Result, Ok, Err}
 use Rattle.std.specs.Option.{unwrap_or}
+use Rattle.std.specs.List.{All}
 use Rattle.std.specs.Map.{lookup}
 use Rattle.texml_token.specs.declared.tokens.Token.{Token}
 use Rattle.texml_scope.specs.declared.values.Key.{Key}
@@ -41,6 +42,21 @@ MaySet (Name n) (Means m) = 1 ≤ n.0
 MaySet (Active c) (Means m) = Unit {0}
 MaySet (Name n) (Number z) = ⊥
 MaySet (Active c) (Number z) = ⊥
+
+-- the value is one of the key's kind
+abbrev pub IsOfKind : Key → Value → Type 0
+IsOfKind (Name n) (Means m) = Unit {0}
+IsOfKind (Active c) (Means m) = Unit {0}
+IsOfKind (Name n) (Number z) = ⊥
+IsOfKind (Active c) (Number z) = ⊥
+
+-- each value is one of its key's kind
+abbrev pub AreOfKind : (Key → Value) → Type 0
+AreOfKind f = (k : Key) → IsOfKind k (f k)
+
+pub record WorldIsOfKind (w : World) : Type 0 where
+  pub top : AreOfKind w.top
+  pub groups : All (λ g. AreOfKind g.below) w.groups
 
 -- the number that a value is, if it is one
 abbrev pub number_in : Value → Option ℤ

@@ -3,7 +3,7 @@
 ghost use Rattle.std.specs.Prelude.{◌≡◌, ◌≢◌, ◌≤◌, ◌↔◌, map, reverse, None, Some, Ok, Err, IfOk, OnOk, OnErr};
 ghost use Rattle.texml_base.specs.Rising.{add_up};
 ghost use Rattle.texml_scope.specs.Groups.{set_local, set_global, put_below, begin_group, keep_in, keep_after, inner_kind, end_group};
-ghost use Rattle.texml_scope.specs.World.{same_key, same_kind, starting, new_world, MaySet, number_in, answer_of, open_of, world_of};
+ghost use Rattle.texml_scope.specs.World.{same_key, same_kind, starting, new_world, MaySet, IsOfKind, number_in, answer_of, open_of, world_of};
 
 use crate::table::Table;
 use crate::values::{Key, Meaning, Value, copied};
@@ -47,10 +47,13 @@ impl Model for Scope {
     ghost use Rattle.texml_scope.specs.declared.values.Key.{Key as ScopeKey};
     ghost use Rattle.texml_scope.specs.declared.values.Value.{Value as ScopeValue};
     ghost use Rattle.texml_scope.specs.declared.scope.Level.{Level as ScopeLevel};
+    ghost use Rattle.texml_scope.specs.World.{WorldIsOfKind, world_of};
 
     ghost Value = { List (ScopeKey × ScopeValue) × List ScopeLevel };
 
     ghost view = { λ s. (s.top, reverse s.outer.items) };
+
+    ghost invariant = { λ s. WorldIsOfKind (world_of (s.top, reverse s.outer.items)) };
 }
 
 impl Scope {
@@ -72,7 +75,8 @@ impl Scope {
     ///
     /// `AllocError` where there is no memory.
     pub fn get(&self, key: &Key) -> Result<Value, AllocError>
-        ensures { IfOk result (λ value. value ≡ (world_of self.now).top key.now) }
+        ensures value { IfOk result (λ value. value ≡ (world_of self.now).top key.now) }
+        ensures kind { IfOk result (IsOfKind key.now) }
     {
         match self.top.get(key) {
             Some(value) => copied(value),
