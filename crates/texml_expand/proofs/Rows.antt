@@ -1,14 +1,14 @@
 -- Fetching and expanding, computed on small states.
-use Rattle.std.proofs.Common.{◌≡◌, ℕ, List, [], ◌∷◌, Option, Some, None, if◌then◌else◌, refl}
+use Rattle.std.proofs.Common.{◌≡◌, ℕ, List, [], ◌∷◌, Some, refl}
 use Rattle.std.specs.Prelude.{codes}
-use Rattle.texml_token.specs.Token.{Token, Char, Active, Named, Fixed}
+use Rattle.texml_token.specs.Token.{Token, Char, Named, Fixed}
 use Rattle.texml_token.specs.declared.fault_code.TheConstants.{UNDEFINED}
 use Rattle.texml_scope.specs.Groups.{set_local}
-use Rattle.texml_scope.specs.Texts.{Key, Name, key_eq, Macro, Value, Means, World, new_world}
+use Rattle.texml_scope.specs.Texts.{Name, key_eq, Macro, Means, World, new_world}
 use Rattle.texml_watch.specs.declared.record.Record.{Record}
 use Rattle.texml_mouth.specs.declared.State.TheVariants.{MidLine}
-use Rattle.texml_expand.specs.Rest.{Item, Tok, Frozen, Text, fresh, size}
-use Rattle.texml_expand.specs.State.{State, room, Tex, Limit, Gains, nothing, Answer, Done, Ended, Unfinished, fault_at}
+use Rattle.texml_expand.specs.Rest.{Item, Tok, Frozen, Text, fresh}
+use Rattle.texml_expand.specs.State.{State, room, Tex, Limit, nothing, Done, Ended, Unfinished, fault_at}
 use Rattle.texml_expand.specs.Expand.{fetches}
 
 -- \x means \x, and \e means nothing at all: its body is empty

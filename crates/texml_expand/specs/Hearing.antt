@@ -5,7 +5,7 @@ use Rattle.texml_watch.specs.declared.record.Record.{Record}
 use Rattle.texml_watch.specs.Telling.{AllHeard}
 use Rattle.texml_expand.specs.declared.stop.Stop.{Stop}
 use Rattle.texml_expand.specs.declared.stop.Stop.TheVariants as stop
-use Rattle.texml_expand.specs.State.{State, End, Tex, Limit, Gains, Answer, Done, Ended, IsDecided, added}
+use Rattle.texml_expand.specs.State.{State, End, Tex, Limit, Gains, Answer, Done, Ended, added}
 use Rattle.texml_expand.specs.Contract.{Gives}
 
 -- who wants records hears one, and who wants none stays as they were
