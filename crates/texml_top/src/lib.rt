@@ -10,6 +10,7 @@
 mod material;
 mod page;
 mod reading;
+mod request;
 mod source;
 mod status;
 mod top;
@@ -20,5 +21,7 @@ pub use top::run;
 
 #[cfg(test)]
 mod engine_tests;
+#[cfg(test)]
+mod request_tests;
 #[cfg(test)]
 mod tests;
