@@ -5,6 +5,7 @@ use Rattle.texml_base.specs.Outside.{Shelf}
 use Rattle.texml_base.specs.Opened.{ids_of, held}
 use Rattle.texml_base.specs.declared.opened.Opened.{Opened}
 use Rattle.texml_base.specs.declared.disk.DiskFile.{DiskFile}
+use Rattle.texml_base.specs.declared.disk.DiskFiles.{DiskFiles}
 
 abbrev pub budget_of : {F : Type 0} → Option (DiskFile F) → ℕ
 budget_of None = 0
@@ -25,3 +26,10 @@ untold ids number = record {
 -- what open files of the real folder stand for
 abbrev pub disk_shelf : {F : Type 0} → List (Opened (DiskFile F)) → Shelf
 disk_shelf opened = untold (ids_of opened) (λ id. budget_of (held opened id))
+
+-- what the real folder stands for
+abbrev pub folder_shelf : {R F D : Type 0} → DiskFiles R F D → Shelf
+folder_shelf d = disk_shelf d.opened.items
+
+abbrev pub folder_faults : {R F D : Type 0} → DiskFiles R F D → ℕ
+folder_faults d = d.faults.count

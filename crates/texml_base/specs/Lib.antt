@@ -7,3 +7,4 @@ pub mod Disk
 pub mod Rising
 pub mod MemorySinks
 pub mod Counters
+pub mod Stream

@@ -1,7 +1,5 @@
 //! The files of the real folder.
 ghost use Rattle.std.specs.Prelude.{◌≡◌, ◌≤◌, ◌+◌, length, [], MatchOption};
-ghost use Rattle.texml_base.specs.Opened.{ids_of};
-ghost use Rattle.texml_base.specs.Disk.{disk_shelf};
 
 use crate::faults::FaultCount;
 use crate::files::{Files, Trouble};
@@ -28,9 +26,12 @@ pub struct DiskFiles<R: rt::Files> {
 }
 
 impl<R: rt::Files> DiskFiles<R> {
+    ghost use Rattle.texml_base.specs.Disk.{folder_shelf, folder_faults, untold};
+
     /// The folder that the runtime reaches, with no file open.
     pub fn new(alloc: Global, rt: R) -> Self
-        ensures { ids_of result.opened.items ≡ [] }
+        ensures shelf { folder_shelf result ≡ untold [] (λ _. 0) }
+        ensures faults { folder_faults result ≡ 0 }
     {
         DiskFiles {
             rt,
@@ -41,9 +42,11 @@ impl<R: rt::Files> DiskFiles<R> {
 }
 
 impl<R: rt::Files> Files for DiskFiles<R> {
-    ghost shelf = { λ d. disk_shelf d.opened.items };
+    ghost use Rattle.texml_base.specs.Disk.{folder_shelf, folder_faults};
 
-    ghost faults = { λ d. d.faults.count };
+    ghost shelf = { folder_shelf };
+
+    ghost faults = { folder_faults };
 
     fn open_file(&mut self, _alloc: Global, name: &str) -> Result<Option<u32>, Trouble> {
         match fs::open(&self.rt, name) {

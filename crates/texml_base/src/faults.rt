@@ -16,8 +16,7 @@ impl FaultCount {
     }
 
     pub fn raise(&mut self)
-        ensures later { self.old.count ≤ self.new.count }
-        ensures rose { Rose self.old.count self.new.count }
+        ensures { self.new.count ≡ add_up self.old.count 1 }
     {
         self.count = self.count.saturating_add(1);
     }

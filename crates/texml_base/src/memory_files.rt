@@ -1,5 +1,5 @@
 //! Files in memory.
-ghost use Rattle.std.specs.Prelude.{◌≡◌, ◌<◌, ◌≤◌, ◌↔◌, length, min, IsTrue, ℕ, List, [], IfOk, OnOk, OnErr, None, Some, IsErrOf, if◌then◌else◌};
+ghost use Rattle.std.specs.Prelude.{◌≡◌, ◌<◌, ◌≤◌, ◌↔◌, length, min, IsTrue, ℕ, List, [], IfOk, OnOk, OnErr, None, Some, IsErrOf, if◌then◌else◌, ◌==◌};
 ghost use Rattle.std.specs.Str.{bytes_eq};
 ghost use Rattle.texml_base.specs.Outside.{Opens, Reads, IsClosed, HasTroubleCause, in_use};
 ghost use Rattle.texml_base.specs.Rising.{add_up};
@@ -95,7 +95,12 @@ impl Files for CalmFiles {
         Ok(count)
     }
 
-    fn close_file(&mut self, id: u32) {
+    fn close_file(&mut self, id: u32)
+        requires { IsTrue (in_use (calm_shelf self.old).ids id) }
+        ensures closed { IsClosed (calm_shelf self.old) (calm_shelf self.new) id }
+        ensures faults { 0 ≤ 0 }
+        ensures piece { calm_piece self.new ≡ calm_piece self.old }
+    {
         let place = place_of(&self.opened, id);
         let _ = self.opened.remove(place);
     }
@@ -110,7 +115,7 @@ pub struct MemoryFiles {
 }
 
 impl MemoryFiles {
-    ghost use Rattle.texml_base.specs.Memory.{memory_shelf, memory_piece, failing_call, next_call};
+    ghost use Rattle.texml_base.specs.Memory.{memory_shelf, memory_faults, memory_piece, failing_call, next_call};
 
     /// No files yet; a read will give at most `piece` bytes. The open or read call of the number `fail_call`, counted from 1, fails; 0 means none.
     pub fn new(alloc: Global, piece: usize, fail_call: u64) -> Self
@@ -121,6 +126,7 @@ impl MemoryFiles {
         ensures total { (memory_shelf result).total ≡ 0 }
         ensures calls { next_call result ≡ 1 }
         ensures fails { failing_call result ≡ fail_call }
+        ensures faults { memory_faults result ≡ 0 }
     {
         MemoryFiles {
             files: CalmFiles::new(alloc, piece),
@@ -139,6 +145,7 @@ impl MemoryFiles {
         ensures total { (memory_shelf self.new).total ≡ (memory_shelf self.old).total }
         ensures calls { next_call self.new ≡ next_call self.old }
         ensures fails { failing_call self.new ≡ failing_call self.old }
+        ensures faults { memory_faults self.new ≡ memory_faults self.old }
         ensures refused { OnErr result (memory_shelf self.new ≡ memory_shelf self.old) }
     {
         self.files.add(alloc, name, bytes)
@@ -158,6 +165,8 @@ impl Files for MemoryFiles {
         ensures cause { HasTroubleCause (memory_faults self.old) (memory_faults self.new) result }
         ensures piece { memory_piece self.new ≡ memory_piece self.old }
         ensures exact { IsErrOf result Trouble.Failed ↔ (next_call self.old ≡ failing_call self.old) }
+        ensures raised { memory_faults self.new ≡ (if next_call self.old == failing_call self.old
+            then add_up (memory_faults self.old) 1 else memory_faults self.old) }
         ensures calls { next_call self.new ≡ add_up (next_call self.old) 1 }
         ensures fails { failing_call self.new ≡ failing_call self.old }
     {
@@ -177,6 +186,8 @@ impl Files for MemoryFiles {
         ensures count { IfOk result (λ n. n ≡ min (min (length ((memory_shelf self.old).left id)) (memory_piece self.old)) (length into.old)) }
         ensures piece { memory_piece self.new ≡ memory_piece self.old }
         ensures exact { IsErrOf result Trouble.Failed ↔ (next_call self.old ≡ failing_call self.old) }
+        ensures raised { memory_faults self.new ≡ (if next_call self.old == failing_call self.old
+            then add_up (memory_faults self.old) 1 else memory_faults self.old) }
         ensures calls { next_call self.new ≡ add_up (next_call self.old) 1 }
         ensures fails { failing_call self.new ≡ failing_call self.old }
     {
@@ -187,7 +198,14 @@ impl Files for MemoryFiles {
         self.files.read_file(id, into)
     }
 
-    fn close_file(&mut self, id: u32) {
+    fn close_file(&mut self, id: u32)
+        requires { IsTrue (in_use (memory_shelf self.old).ids id) }
+        ensures closed { IsClosed (memory_shelf self.old) (memory_shelf self.new) id }
+        ensures faults { memory_faults self.new ≡ memory_faults self.old }
+        ensures piece { memory_piece self.new ≡ memory_piece self.old }
+        ensures calls { next_call self.new ≡ next_call self.old }
+        ensures fails { failing_call self.new ≡ failing_call self.old }
+    {
         self.files.close_file(id);
     }
 }

@@ -56,7 +56,7 @@ pub struct MemorySink {
 }
 
 impl MemorySink {
-    ghost use Rattle.texml_base.specs.MemorySinks.{sink_bytes, sink_room, failing_write, next_write};
+    ghost use Rattle.texml_base.specs.MemorySinks.{sink_bytes, sink_faults, sink_room, failing_write, next_write};
 
     /// A sink with this room, which it takes at once. The write of this number, counted from 1, fails and adds nothing; 0 means none.
     /// It fails only where memory was refused.
@@ -65,6 +65,7 @@ impl MemorySink {
         ensures room { IfOk result (λ s. sink_room s ≡ room) }
         ensures fails { IfOk result (λ s. failing_write s ≡ fail_write) }
         ensures writes { IfOk result (λ s. next_write s ≡ 1) }
+        ensures faults { IfOk result (λ s. sink_faults s ≡ 0) }
     {
         Ok(MemorySink {
             bytes: Vec::with_capacity(alloc, room)?,
@@ -96,6 +97,7 @@ impl Sink for MemorySink {
         ensures bytes { sink_bytes self.new ≡ (if next_write self.old == failing_write self.old then sink_bytes self.old
             else take (sink_room self.old) (sink_bytes self.old ++ piece.now)) }
         ensures exact { is_ok result ≡ fits_in self.old piece.now }
+        ensures raised { sink_faults self.new ≡ (if is_ok result then sink_faults self.old else add_up (sink_faults self.old) 1) }
         ensures writes { next_write self.new ≡ add_up (next_write self.old) 1 }
         ensures room { sink_room self.new ≡ sink_room self.old }
         ensures fails { failing_write self.new ≡ failing_write self.old }

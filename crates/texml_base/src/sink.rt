@@ -1,5 +1,5 @@
 //! A sink takes bytes, and counts its own faults.
-ghost use Rattle.std.specs.Prelude.{◌≡◌, ℕ, None};
+ghost use Rattle.std.specs.Prelude.{◌≡◌, ℕ, None, OnOk};
 ghost use Rattle.texml_base.specs.Outside.{Ink, Takes, HasCause};
 
 use crate::faults::FaultCount;
@@ -31,8 +31,13 @@ pub struct StreamSink<W: Write> {
 }
 
 impl<W: Write> StreamSink<W> {
+    ghost use Rattle.texml_base.specs.Stream.{stream_bytes, stream_faults};
+
     /// A sink that writes to the stream.
-    pub fn new(stream: W) -> Self {
+    pub fn new(stream: W) -> Self
+        ensures bytes { stream_bytes W.contents result ≡ W.contents stream }
+        ensures faults { stream_faults result ≡ 0 }
+    {
         StreamSink {
             stream,
             faults: FaultCount::new(),
@@ -41,11 +46,20 @@ impl<W: Write> StreamSink<W> {
 }
 
 impl<W: Write> Sink for StreamSink<W> {
+    ghost use Rattle.std.specs.Io.KnownBytes.{Appends};
+    ghost use Rattle.texml_base.specs.Stream.{stream_bytes, stream_faults};
+
     ghost ink = { λ _. record { bytes = None; count = None } };
 
-    ghost faults = { λ s. s.faults.count };
+    ghost faults = { stream_faults };
 
-    fn write(&mut self, piece: &[u8]) -> Result<(), SinkFail> {
+    /// Writes the piece whole, or fails.
+    fn write(&mut self, piece: &[u8]) -> Result<(), SinkFail>
+        ensures written { Takes (record { bytes = None; count = None }) (record { bytes = None; count = None }) result piece.now }
+        ensures cause { HasCause (stream_faults self.old) (stream_faults self.new) result }
+        ensures bytes { OnOk result (Appends (stream_bytes W.contents self.old) (stream_bytes W.contents self.new) piece.now) }
+        ensures later { OnOk result (stream_faults self.new ≡ stream_faults self.old) }
+    {
         match self.stream.write_all(piece) {
             Ok(()) => Ok(()),
             Err(_) => {

@@ -67,8 +67,20 @@ fn sinks_take_what_fits(rt: HostRuntime) -> Result<(), Fail> {
     assert_eq!(rt; calm.write(b"abc"), Ok(()));
     assert_eq!(rt; calm.write(b"defg"), Ok(()));
     assert_eq!(rt; calm.count(), 7);
-    let mut stream = StreamSink::new(Vec::new(alloc));
+    Ok(())
+}
+
+#[test]
+fn stream_is_written(rt: HostRuntime) -> Result<(), Fail> {
+    let mut taken = Vec::new(rt.alloc());
+    let mut stream = StreamSink::new(&mut taken);
     assert_eq!(rt; stream.write(b"abc"), Ok(()));
+    assert_eq!(rt; stream.write(b"de"), Ok(()));
+    assert_eq!(rt; taken.as_slice(), b"abcde".as_slice());
+    let mut room = [0u8; 4];
+    let mut full = StreamSink::new(room.as_mut_slice());
+    assert_eq!(rt; full.write(b"abc"), Ok(()));
+    assert_eq!(rt; full.write(b"de"), Err(SinkFail));
     Ok(())
 }
 

@@ -64,7 +64,7 @@ given_leads s (Got t rest place) e = record {
   limit = refl;
   nesting = refl;
   begun = omega arith;
-  size = λ _. next_lower (cats_of s.world) (end_of s.world) s.rest rest s.place place t e;
+  size = λ _. let less = next_lower (cats_of s.world) (end_of s.world) s.rest rest s.place place t e in omega arith;
   below = λ lt. absurd (omega (arith, lt));
 }
 given_leads s (AtEnd place) e = record { limit = refl; nesting = refl; begun = omega arith; size = λ _. omega arith; below = λ lt. absurd (omega (arith, lt)) }
@@ -117,8 +117,8 @@ begin_leads s = begun_leads s (nat_le s.limit s.begun) (nat_le 400 s.nesting) re
 finished_begins : (s t : State) (list : List Token) → t ≡ record s { begun = s.begun + 1; nesting = s.nesting + 1 } → s.begun < s.limit → Begins s (finished list t)
 finished_begins s t list e lt = rw e (record { limit = refl; nesting = omega arith; begun = omega arith; below = lt })
 
-pub expand_leads : (tok : Token) (x : Expandable) (s : State) → Leads (λ v t. Begins s t) (expand tok x s)
-expand_leads tok (Body body) s = leads_chain (Begun s) (λ v t. Begins s t) (begin s) _ (begin_leads s)
+pub expand_leads : (c : Calls) (tok : Token) (x : Expandable) (s : State) → Leads (λ v t. Begins s t) (expand c tok x s)
+expand_leads c tok (Body body) s = leads_chain (Begun s) (λ v t. Begins s t) (begin s) _ (begin_leads s)
     (λ v t h. finished_begins s t body h.0 h.1)
 
 -- fetching
@@ -127,7 +127,7 @@ module _ (c : Calls) (calls : (s : State) → Leads (λ o t. Lower (count o) s t
   fetch_front_leads s Nothing t h = h
   fetch_front_leads s (Plain tok) t h = h
   fetch_front_leads s (Expands tok x) t h =
-      leads_chain (λ v u. Begins t u) (λ o u. Lower (count o) s u) (expand tok x t) (λ _. c.fetch) (expand_leads tok x t)
+      leads_chain (λ v u. Begins t u) (λ o u. Lower (count o) s u) (expand c tok x t) (λ _. c.fetch) (expand_leads c tok x t)
       (λ v u b. leads_each (c.fetch u) u (λ o w l. lower_then 1 (count o) (count o) s t w h (begins_lower (count o) (count o) t u w b l) (omega arith)) (calls u))
     where
       leads_each : (a : Answer (Option Token)) (u : State) → ((o : Option Token) (w : State) → Lower (count o) u w → Lower (count o) s w)

@@ -10,3 +10,6 @@ pub mod Order
 pub mod Falls
 pub mod Settle
 pub mod Total
+pub mod Meeting
+pub mod Rounds
+pub mod Fronts

@@ -1,7 +1,9 @@
 -- A deeper look answers what a less deep one has decided.
-use Rattle.std.proofs.Common.{◌≡◌, ◌+◌, ◌-◌, ◌≤◌, ℕ, zero, suc, refl, sym, ap, ◌∙◌, subst, arith, add-suc, add-zero}
+use Rattle.std.proofs.Common.{Option, Some, None, ◌≡◌, ◌+◌, ◌-◌, ◌≤◌, ℕ, zero, suc, refl, sym, ap, ◌∙◌, subst, arith, add-suc, add-zero}
 use Rattle.texml_expand.specs.State.{State, Gains, Answer, Done, Ended, Unfinished, Reading, after, chain, IsDecided}
-use Rattle.texml_expand.specs.Expand.{Calls, Front, Nothing, Plain, Expands, front, expand, fetch_front, fetch_by, step, level, fetches}
+use Rattle.texml_token.specs.Token.{Token}
+use Rattle.texml_scope.specs.Texts.{Meaning}
+use Rattle.texml_expand.specs.Expand.{Calls, Expandable, Body, Front, Nothing, Plain, Expands, front, meaning_of, expandable, expand, expand_as, expand_token, fetch_front, fetch_by, step, level, fetches, expands, expands_token}
 
 -- b is what a is, once a is decided
 pub record Grows {A : Type 0} (a b : Answer A) : Type 0 where
@@ -35,10 +37,20 @@ pub record GrowsCalls (c c' : Calls) : Type 0 where
   pub fetch : (s : State) → Grows (c.fetch s) (c'.fetch s)
 
 module _ (c c' : Calls) (g : GrowsCalls c c') where
+  pub expand_grows : (t : Token) (e : Expandable) (s : State) → Grows (expand c t e s) (expand c' t e s)
+  expand_grows t (Body body) s = grows_refl _
+
+  expand_as_grows : (t : Token) (e : Option Expandable) (s : State) → Grows (expand_as c t e s) (expand_as c' t e s)
+  expand_as_grows t None s = grows_refl _
+  expand_as_grows t (Some e) s = expand_grows t e s
+
+  pub expand_token_grows : (t : Token) (s : State) → Grows (expand_token c t s) (expand_token c' t s)
+  expand_token_grows t s = expand_as_grows t (expandable (meaning_of s.world t)) s
+
   pub fetch_front_grows : (f : Front) (s : State) → Grows (fetch_front c f s) (fetch_front c' f s)
   fetch_front_grows Nothing s = grows_refl _
   fetch_front_grows (Plain t) s = grows_refl _
-  fetch_front_grows (Expands t e) s = chain_grows (grows_refl (expand t e s)) (λ _ s. g.fetch s)
+  fetch_front_grows (Expands t e) s = chain_grows (expand_grows t e s) (λ _ s. g.fetch s)
 
   pub fetch_grows : (s : State) → Grows (fetch_by c s) (fetch_by c' s)
   fetch_grows s = chain_grows (grows_refl (front s)) fetch_front_grows
@@ -72,3 +84,9 @@ pub record Mono {A : Type 0} (r : ℕ → Answer A) : Type 0 where
 
 pub fetches_mono : (s : State) → Mono (fetches s)
 fetches_mono s = record { grows = λ n m h. (levels_grow n m h).fetch s }
+
+pub expands_mono : (t : Token) (e : Expandable) (s : State) → Mono (expands t e s)
+expands_mono t e s = record { grows = λ n m h. expand_grows (level n) (level m) (levels_grow n m h) t e s }
+
+pub expands_token_mono : (t : Token) (s : State) → Mono (expands_token t s)
+expands_token_mono t s = record { grows = λ n m h. expand_token_grows (level n) (level m) (levels_grow n m h) t s }

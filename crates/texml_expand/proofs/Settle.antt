@@ -4,7 +4,7 @@ use Rattle.texml_token.specs.Token.{Token}
 use Rattle.texml_scope.specs.Texts.{Meaning, Undefined, Macro, Builtin}
 use Rattle.texml_expand.specs.Next.{Taken, Given, Got, AtEnd, Invalid, next}
 use Rattle.texml_expand.specs.State.{State, Answer, Done, Ended, Unfinished, Reading, chain, IsDecided, cats_of, end_of}
-use Rattle.texml_expand.specs.Expand.{take, take_given, Calls, Expandable, Body, Front, Nothing, Plain, Expands, front, front_by, front_frozen, front_taken, meaning_of, begin, expand, fetch_front, level, fetches}
+use Rattle.texml_expand.specs.Expand.{take, take_given, Calls, Expandable, Body, Front, Nothing, Plain, Expands, front, front_by, front_frozen, front_taken, meaning_of, begin, expandable, expand, expand_as, expand_token, fetch_front, level, fetches}
 use Rattle.texml_expand.specs.Contract.{Begins}
 use Rattle.texml_expand.proofs.Order.{decided_after}
 use Rattle.texml_expand.proofs.Falls.{Leads, front_leads, FrontLeads, expand_leads, begun_answer}
@@ -51,8 +51,8 @@ begun_decided s true c = tt
 begun_decided s false true = tt
 begun_decided s false false = tt
 
-pub expand_decided : (t : Token) (x : Expandable) (s : State) → IsDecided (expand t x s)
-expand_decided t (Body body) s = chain_decided (λ v u. Unit {0}) (begin s) _ (begun_decided s (nat_le s.limit s.begun) (nat_le 400 s.nesting)) (any (begin s)) (λ v u _. tt)
+pub expand_decided : (c : Calls) (t : Token) (x : Expandable) (s : State) → IsDecided (expand c t x s)
+expand_decided c t (Body body) s = chain_decided (λ v u. Unit {0}) (begin s) _ (begun_decided s (nat_le s.limit s.begun) (nat_le 400 s.nesting)) (any (begin s)) (λ v u _. tt)
 
 -- what stands at the front, where fetching decides with fewer expansions left
 front_settles : (c : Calls) (k : ℕ) → ((u : State) → u.limit - u.begun < k → IsDecided (c.fetch u)) → (s : State) → s.limit - s.begun ≤ k
@@ -60,7 +60,7 @@ front_settles : (c : Calls) (k : ℕ) → ((u : State) → u.limit - u.begun < k
 front_settles c k fewer s le Nothing t h = tt
 front_settles c k fewer s le (Plain tok) t h = tt
 front_settles c k fewer s le (Expands tok x) t h =
-    chain_decided (λ v u. Begins t u) (expand tok x t) (λ _. c.fetch) (expand_decided tok x t) (expand_leads tok x t)
+    chain_decided (λ v u. Begins t u) (expand c tok x t) (λ _. c.fetch) (expand_decided c tok x t) (expand_leads c tok x t)
     (λ v u b. let l = h.limit in let g = h.begun in let m = b.limit in let a = b.begun in let w = b.below in fewer u (omega arith))
 
 pub settles : (n : ℕ) (s : State) → s.limit - s.begun ≤ n → IsDecided (fetches s (suc n))
@@ -70,3 +70,10 @@ settles zero s le =
 settles (suc n) s le =
     chain_decided (FrontLeads s) (front s) (fetch_front (level (suc n))) (front_decided s) (front_leads s)
     (front_settles (level (suc n)) (suc n) (λ u lt. settles n u (omega (arith, lt))) s le)
+
+expand_as_decided : (c : Calls) (t : Token) (x : Option Expandable) (s : State) → IsDecided (expand_as c t x s)
+expand_as_decided c t None s = tt
+expand_as_decided c t (Some x) s = expand_decided c t x s
+
+pub expand_token_decided : (c : Calls) (t : Token) (s : State) → IsDecided (expand_token c t s)
+expand_token_decided c t s = expand_as_decided c t (expandable (meaning_of s.world t)) s

@@ -1,24 +1,24 @@
 -- The one answer of fetching, and the equation that it meets. The proofs of code speak of these.
-use Rattle.std.proofs.Common.{◌≡◌, ◌+◌, ◌-◌, ℕ, zero, suc, Option, sym, ◌∙◌, subst, arith}
+use Rattle.std.proofs.Common.{◌≡◌, ◌+◌, ◌-◌, ℕ, zero, suc, Option, Some, sym, ap, ◌∙◌, subst, arith}
 use Rattle.texml_token.specs.Token.{Token}
 use Rattle.texml_expand.specs.State.{State, Answer, IsDecided}
-use Rattle.texml_expand.specs.Expand.{Calls, fetch_by, level, fetches}
+use Rattle.texml_expand.specs.Expand.{Calls, Expandable, meaning_of, expandable, expand, expand_as, fetch_by, level, fetches, expands, expands_token}
 use Rattle.texml_expand.specs.Contract.{Gives}
-use Rattle.texml_expand.proofs.Order.{GrowsCalls, Mono, fetches_mono, fetch_grows}
-use Rattle.texml_expand.proofs.Settle.{settles}
+use Rattle.texml_expand.proofs.Order.{GrowsCalls, Mono, fetches_mono, fetch_grows, expand_grows}
+use Rattle.texml_expand.proofs.Settle.{settles, expand_decided}
 
 -- two depths that decide agree
 pub agree : {A : Type 0} (r : ℕ → Answer A) → Mono r → (n m : ℕ) → IsDecided (r n) → IsDecided (r m) → r n ≡ r m
 agree r mono n m d e = sym ((mono.grows n (n + m) (omega arith)).same d) ∙ (mono.grows m (n + m) (omega arith)).same e
 
 -- a depth that decides
-depth : State → ℕ
+pub depth : State → ℕ
 depth s = suc (s.limit - s.begun)
 
 pub total : Calls
 total = record { fetch = λ s. fetches s (depth s) }
 
-decides : (s : State) → IsDecided (fetches s (depth s))
+pub decides : (s : State) → IsDecided (fetches s (depth s))
 unfolding depth
 decides s = settles (s.limit - s.begun) s (omega arith)
 
@@ -46,3 +46,14 @@ gives_fetch s a e = record { depth = depth s; is = e; decided = subst IsDecided 
 
 pub fetch_given : (s : State) (a : Answer (Option Token)) → Gives (fetches s) a → total.fetch s ≡ a
 fetch_given s a g = ((level_total g.depth).fetch s).same (subst IsDecided (sym g.is) g.decided) ∙ g.is
+
+-- an expansion, in the same sense
+pub gives_expand : (t : Token) (e : Expandable) (s : State) → Gives (expands t e s) (expand total t e s)
+gives_expand t e s = record { depth = 0; is = sym ((expand_grows (level 0) total (level_total 0) t e s).same (expand_decided (level 0) t e s)); decided = expand_decided total t e s }
+
+pub expand_given : (t : Token) (e : Expandable) (s : State) (a : Answer (Unit {0})) → Gives (expands t e s) a → expand total t e s ≡ a
+expand_given t e s a g = (expand_grows (level g.depth) total (level_total g.depth) t e s).same (subst IsDecided (sym g.is) g.decided) ∙ g.is
+
+-- an expansion of a token that means this
+pub gives_token : (t : Token) (e : Expandable) (s : State) (a : Answer (Unit {0})) → expandable (meaning_of s.world t) ≡ Some e → Gives (expands t e s) a → Gives (expands_token t s) a
+gives_token t e s a m g = record { depth = g.depth; is = ap (λ x. expand_as (level g.depth) t x s) m ∙ g.is; decided = g.decided }

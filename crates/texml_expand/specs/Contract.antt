@@ -3,8 +3,8 @@ use Rattle.std.specs.Prelude.{◌≡◌, ◌+◌, ◌<◌, ◌≤◌, ℕ, List,
 use Rattle.texml_base.specs.Rising.{Rose}
 use Rattle.texml_expand.specs.declared.stop.Stop.{Stop}
 use Rattle.texml_expand.specs.declared.stop.Stop.TheVariants as stop
-use Rattle.texml_expand.specs.Rest.{size, Place}
-use Rattle.texml_expand.specs.State.{State, Tex, Limit, nothing, Answer, Done, Ended, IsDecided, fault_at}
+use Rattle.texml_expand.specs.Rest.{Place}
+use Rattle.texml_expand.specs.State.{State, room, Tex, Limit, nothing, Answer, Done, Ended, IsDecided, fault_at}
 
 -- some depth decides, and gives this
 pub record Gives {A : Type 0} (reading : ℕ → Answer A) (answer : Answer A) : Type 0 where
@@ -41,13 +41,13 @@ pub record Stops {A : Type 0} (result : Result A Stop) (old new : Outside) (kept
   pub tells : old.tell_faults ≤ new.tell_faults
   pub because : Because result old new
 
--- an answer without gains: the value and the state behind it, or the end
+-- an answer without gains: the value and the state behind it, or the end. Nothing that can fail is asked
 abbrev pub Silent : {A : Type 0} → Answer A → Result A Stop → State → Type 0
 Silent answer (Ok v) s = answer ≡ Done v s nothing
 Silent answer (Err (stop.Tex f)) s = answer ≡ Ended (Tex f) nothing
 Silent answer (Err (stop.Limit n)) s = answer ≡ Ended (Limit n) nothing
-Silent answer (Err stop.ReadFailed) s = Unit {0}
-Silent answer (Err stop.TellFailed) s = Unit {0}
+Silent answer (Err stop.ReadFailed) s = ⊥
+Silent answer (Err stop.TellFailed) s = ⊥
 Silent answer (Err stop.NoMemory) s = Unit {0}
 
 -- for the copy of a fault memory may be refused
@@ -80,7 +80,7 @@ pub record Lower (k : ℕ) (s t : State) : Type 0 where
   pub limit : t.limit ≡ s.limit
   pub nesting : t.nesting ≡ s.nesting
   pub begun : s.begun ≤ t.begun
-  pub size : t.begun ≡ s.begun → size t.rest + k ≤ size s.rest
+  pub size : t.begun ≡ s.begun → room t + k ≤ room s
   pub below : s.begun < t.begun → s.begun < s.limit
 
 -- an expansion began between s and t

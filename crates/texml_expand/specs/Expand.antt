@@ -97,8 +97,8 @@ begin s =
     else Done tt (record s { begun = s.begun + 1; nesting = s.nesting + 1 }) nothing
 
 -- what an expansion gives
-abbrev pub given : Expandable → Reading (List Token)
-given (Body body) = give body
+abbrev pub given : Calls → Expandable → Reading (List Token)
+given calls (Body body) = give body
 
 -- the expansion is over, and its tokens are put back
 abbrev pub finished : List Token → State → State
@@ -113,11 +113,26 @@ finish t list = do
   tell (record_of t list)
 
 -- an expansion: it begins, reads its operands, puts back what it gives, and adds one record
-abbrev pub expand : Token → Expandable → Reading (Unit {0})
-expand t e = do
+abbrev pub expand : Calls → Token → Expandable → Reading (Unit {0})
+expand calls t e = do
   begin
-  list ← given e
+  list ← given calls e
   finish t list
+
+-- what a token of this meaning can be expanded by, if it can be
+abbrev pub expandable : Option Meaning → Option Expandable
+expandable None = None
+expandable (Some Undefined) = None
+expandable (Some (Macro body)) = Some (Body body)
+expandable (Some (Builtin place)) = None
+
+-- a token is expanded once, if it can be
+abbrev pub expand_as : Calls → Token → Option Expandable → Reading (Unit {0})
+expand_as calls t None = give tt
+expand_as calls t (Some e) = expand calls t e
+
+abbrev pub expand_token : Calls → Token → Reading (Unit {0})
+expand_token calls t s = expand_as calls t (expandable (meaning_of s.world t)) s
 
 -- Fetching
 
@@ -125,7 +140,7 @@ abbrev pub fetch_front : Calls → Front → Reading (Option Token)
 fetch_front calls Nothing = give None
 fetch_front calls (Plain t) = give (Some t)
 fetch_front calls (Expands t e) = do
-  expand t e
+  expand calls t e
   calls.fetch
 
 -- the next token that can't be expanded: while the one at the front can be, it is expanded
@@ -148,3 +163,9 @@ level (suc n) = step (level n)
 
 abbrev pub fetches : State → ℕ → Answer (Option Token)
 fetches s n = (level n).fetch s
+
+abbrev pub expands : Token → Expandable → State → ℕ → Answer (Unit {0})
+expands t e s n = expand (level n) t e s
+
+abbrev pub expands_token : Token → State → ℕ → Answer (Unit {0})
+expands_token t s n = expand_token (level n) t s

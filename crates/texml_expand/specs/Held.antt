@@ -62,3 +62,8 @@ option_at f (Some v) = Some (f v)
 abbrev pub ReadWithin : ℕ → Option Read → Type 0
 ReadWithin count None = Unit {0}
 ReadWithin count (Some r) = TokenWithin count r.token
+
+-- so many names give the token that was fetched
+abbrev pub OptionWithin : ℕ → Option TokenCode → Type 0
+OptionWithin count None = Unit {0}
+OptionWithin count (Some t) = TokenWithin count t

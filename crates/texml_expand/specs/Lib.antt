@@ -7,4 +7,7 @@ pub mod State
 pub mod Expand
 pub mod Held
 pub mod Contract
+pub mod Hearing
+pub mod Laws
+pub mod Fronts
 pub mod Lending

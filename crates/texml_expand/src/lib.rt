@@ -8,11 +8,13 @@
 
 mod codes;
 mod engine;
+mod laws;
 mod rest;
 mod stop;
 
 pub use codes::InitialCodes;
 pub use engine::Engine;
+pub use laws::{always_decides, decides_once};
 pub use rest::Read;
 pub use stop::Stop;
 

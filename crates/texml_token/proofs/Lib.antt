@@ -3,3 +3,4 @@ pub mod Translation
 pub mod Same
 pub mod Writing
 pub mod Scalar
+pub mod Rows

@@ -1,5 +1,5 @@
 -- What is written of given tokens has characters alone.
-use Rattle.std.proofs.Common.{◌≡◌, ◌+◌, ◌≤◌, ℕ, ℤ, pos, negsuc, zero, suc, Bool, true, false, cond, List, [], ◌∷◌, ◌++◌, length, refl, arith, nat_eq, nat_lt}
+use Rattle.std.proofs.Common.{rules, ◌≡◌, ◌+◌, ◌≤◌, ℕ, ℤ, pos, negsuc, zero, suc, Bool, true, false, cond, List, [], ◌∷◌, ◌++◌, length, refl, arith, nat_eq, nat_lt}
 use Rattle.std.specs.List.{All, flat_map}
 use Rattle.std.specs.Char.{IsScalar, is_ascii_alphabetic}
 use Rattle.std.proofs.lemmas.Bool.{ltb-true}
@@ -15,13 +15,13 @@ one : (c : ℕ) → IsScalar c → All IsScalar (c ∷ [])
 one c h = All-cons IsScalar c [] h (All-nil IsScalar)
 
 relax_scalar : All IsScalar relax
-relax_scalar = All-from_recursion IsScalar relax (search refl)
+relax_scalar = All-from_recursion IsScalar relax (search rules)
 
 csname_scalar : All IsScalar csname
-csname_scalar = All-from_recursion IsScalar csname (search refl)
+csname_scalar = All-from_recursion IsScalar csname (search rules)
 
 endcsname_scalar : All IsScalar endcsname
-endcsname_scalar = All-from_recursion IsScalar endcsname (search refl)
+endcsname_scalar = All-from_recursion IsScalar endcsname (search rules)
 
 -- the text of a given name
 pub text_scalar : (texts : Table) → TextsAreScalar texts → (n : ℕ) → n ≤ length texts → All IsScalar (text_at texts n)

@@ -1,16 +1,15 @@
 -- How tokens are written as characters: spelled, as by \string, or shown, as on the terminal.
-use Rattle.std.specs.Prelude.{ℕ, ℤ, pos, negsuc, ◌+◌, List, [], ◌∷◌, ◌++◌, nat_eq, nat_lt, if◌then◌else◌}
+use Rattle.std.specs.Prelude.{ℕ, ℤ, pos, negsuc, ◌+◌, List, [], ◌∷◌, ◌++◌, nat_eq, nat_lt, if◌then◌else◌, codes}
 use Rattle.std.specs.List.{flat_map}
 use Rattle.std.specs.Char.{is_ascii_alphabetic}
 use lib.Utf8.{scalar}
 use Rattle.texml_token.specs.Token.{Token, Char, Active, Named, Fixed, relax}
 
--- the letters of `csname` and of `endcsname`
 abbrev pub csname : List ℕ
-csname = 99 ∷ 115 ∷ 110 ∷ 97 ∷ 109 ∷ 101 ∷ []
+csname = codes "csname"
 
 abbrev pub endcsname : List ℕ
-endcsname = 101 ∷ 110 ∷ 100 ∷ 99 ∷ 115 ∷ 110 ∷ 97 ∷ 109 ∷ 101 ∷ []
+endcsname = codes "endcsname"
 
 -- the escape character, which is none where the escape is no character's code
 abbrev pub escape_codes : ℤ → List ℕ
@@ -22,6 +21,7 @@ abbrev pub spelled_name : ℤ → List ℕ → List ℕ
 spelled_name escape [] = escape_codes escape ++ csname ++ escape_codes escape ++ endcsname
 spelled_name escape (c ∷ cs) = escape_codes escape ++ c ∷ cs
 
+-- what \string gives of a token
 abbrev pub spelled : ℤ → Token → List ℕ
 spelled escape (Char c category) = c ∷ []
 spelled escape (Active c) = c ∷ []
@@ -38,6 +38,7 @@ name_end [] = []
 name_end (c ∷ []) = if is_ascii_alphabetic c then 32 ∷ [] else []
 name_end (c ∷ d ∷ cs) = 32 ∷ []
 
+-- (TeX shows the empty name as \csname\endcsname, and goes by the category that a letter has at the moment)
 abbrev pub shown_name : List ℕ → List ℕ
 shown_name text = 92 ∷ flat_map shown_code text ++ name_end text
 
@@ -47,5 +48,6 @@ shown_token (Active c) = shown_code c
 shown_token (Named text) = shown_name text
 shown_token Fixed = shown_name relax
 
+-- each token once, a parameter character too, which TeX shows twice
 abbrev pub shown : List Token → List ℕ
 shown = flat_map shown_token

@@ -1,8 +1,9 @@
 -- Tokens (The TeXbook, chapter 7). A name is its text.
-use Rattle.std.specs.Prelude.{ℕ, List, [], ◌∷◌, Bool, true, false, nat_eq, ◌&&◌}
+use Rattle.std.specs.Prelude.{ℕ, List, Bool, true, false, nat_eq, ◌&&◌, codes}
 use Rattle.std.specs.Cmp.Lexicographic.{pointwise}
 
--- a character with its category, an active character, a name, or the fixed \relax, which is no name
+-- a character with its category, an active character, a name, or the fixed \relax, whose meaning nothing changes
+-- and which isn't the name with the text `relax`
 pub data Token : Type 0 where
   Char : ℕ → ℕ → Token
   Active : ℕ → Token
@@ -11,7 +12,7 @@ pub data Token : Type 0 where
 
 -- the text of the fixed \relax
 abbrev pub relax : List ℕ
-relax = 114 ∷ 101 ∷ 108 ∷ 97 ∷ 120 ∷ []
+relax = codes "relax"
 
 abbrev pub text_eq : List ℕ → List ℕ → Bool
 text_eq = pointwise nat_eq

@@ -8,7 +8,7 @@ use std::alloc::AllocError;
 /// A fault of the input. A copy of it is equal, and may find no memory.
 #[derive(Debug, Drop, PartialEq, Eq)]
 pub struct Fault {
-    /// The number of the fault.
+    /// The number of the fault, as in `fault_code`.
     pub code: u8,
     /// The name of the file where it was found.
     pub file: Bytes,

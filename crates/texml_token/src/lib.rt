@@ -10,6 +10,7 @@
 mod bytes;
 pub mod category;
 mod fault;
+pub mod fault_code;
 mod line;
 mod names;
 mod spelling;

@@ -4,6 +4,7 @@ ghost use Rattle.std.specs.Prelude.{◌≤◌, IfOk, length};
 ghost use Rattle.texml_token.specs.Numbers.{TokenWithin};
 
 use crate::category::{LETTER, OTHER};
+use crate::fault_code::UNDEFINED;
 use crate::{Bytes, Fault, Line, Name, Names, Token, Tokens, show, spell};
 use std::alloc::Global;
 use std::process::Abort;
@@ -65,6 +66,7 @@ fn tokens_are_spelled(rt: HostRuntime) -> Result<(), Fail> {
         (92, "\\foo", "\\relax", "\\csname\\endcsname"),
         (-1, "foo", "relax", "csnameendcsname"),
         (33, "!foo", "!relax", "!csname!endcsname"),
+        (0xD800, "foo", "relax", "csnameendcsname"),
     ] {
         check_spelled(&rt, rt.alloc(), &names, Token::Named(Name(1)), escape, word)?;
         check_spelled(
@@ -133,7 +135,7 @@ fn copies_stay_as_they_are(rt: HostRuntime) -> Result<(), Fail> {
         [Token::Active(126), Token::Named(Name(0))].as_slice()
     );
     let fault = Fault {
-        code: 1,
+        code: UNDEFINED,
         file: Bytes::from_slice(alloc, b"a.tex")?,
         line: 2,
         about: Bytes::from_slice(alloc, b"\\foo")?,

@@ -7,6 +7,7 @@
 //! texml_expand for the categories that a run starts with.
 #![tactic(auto)]
 
+mod digest;
 mod material;
 mod page;
 mod reading;

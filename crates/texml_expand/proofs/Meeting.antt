@@ -1,0 +1,128 @@
+-- How the answers of readings that go together are met.
+use Rattle.std.proofs.Common.{◌≡◌, ◌≤◌, ℕ, Bool, true, false, List, [], ◌∷◌, ◌++◌, Option, Some, None, Result, Ok, Err, refl, sym, ap, ◌∙◌, subst, arith, append_assoc, append-nil}
+use Rattle.std.specs.Option.{option_to_list}
+use Rattle.texml_watch.specs.declared.record.Record.{Record}
+use Rattle.texml_watch.specs.Telling.{AllHeard}
+use Rattle.texml_watch.proofs.Hearing.{AllHeard-append}
+use Rattle.texml_expand.specs.declared.stop.Stop.{Stop}
+use Rattle.texml_expand.specs.declared.stop.Stop.TheVariants as stop
+use Rattle.texml_expand.specs.State.{State, Gains, nothing, ◌⊕◌, Answer, Done, Ended, Unfinished, Reading, after, chain, added, tell}
+use Rattle.texml_expand.specs.Contract.{Silent, Gives, Stops, Because, outside}
+use Rattle.texml_expand.specs.Hearing.{HearsIf, HearsPartIf, hears, hears_part, HeardLast, MeetsDone, MeetsPart, Meets, Follows}
+
+-- what is added
+added_after : {A : Type 0} (gains : Gains) (a : Answer A) → added (after gains a) ≡ gains ⊕ added a
+added_after gains (Done v s more) = refl
+added_after gains (Ended e more) = refl
+added_after gains (Unfinished more) = refl
+
+-- what a first part adds, the whole adds first
+added_chain : {A B : Type 0} (a : Answer A) (f : A → Reading B) → (more : List Record) × ((added (chain a f)).records ≡ (added a).records ++ more)
+added_chain (Done v s gains) f = ((added (f v s)).records, ap (λ g. g.records) (added_after gains (f v s)))
+added_chain (Ended e gains) f = ([], sym (append-nil gains.records))
+added_chain (Unfinished gains) f = ([], sym (append-nil gains.records))
+
+module _ {T : Type 0} (hear part : T → Record → T → Type 0) where
+  heard_last : (rows more : List Record) (last : Option Record) (a b c : T) → AllHeard hear a rows b → HeardLast hear part more last b c → HeardLast hear part (rows ++ more) last a c
+  heard_last rows more None a b c h k = AllHeard-append hear a b c rows more h k
+  heard_last rows more (Some last) a b c h k = (k.0, AllHeard-append hear a b k.0 rows more h k.1, k.2)
+
+  part_after : {A : Type 0} (gains : Gains) (x : Answer A) (a b c : T) → AllHeard hear a gains.records b → MeetsPart hear part x b c → MeetsPart hear part (after gains x) a c
+  part_after gains x a b c h k = record {
+    rows = gains.records ++ k.rows;
+    last = k.last;
+    more = k.more;
+    is = ap (λ g. g.records) (added_after gains x) ∙ (ap (λ y. gains.records ++ y) k.is ∙ simp append_assoc);
+    heard = heard_last gains.records k.rows k.last a b c h k.heard;
+  }
+
+  -- the records of a first part were heard before
+  meets_after : {A : Type 0} (gains : Gains) (x : Answer A) (r : Result A Stop) (s : State) (a b c : T) → AllHeard hear a gains.records b → Meets hear part x r s b c → Meets hear part (after gains x) r s a c
+  meets_after gains x (Ok v) s a b c h k = record { gains = gains ⊕ k.gains; is = ap (after gains) k.is; heard = AllHeard-append hear a b c gains.records k.gains.records h k.heard }
+  meets_after gains x (Err (stop.Tex n)) s a b c h k = record { gains = gains ⊕ k.gains; is = ap (after gains) k.is; heard = AllHeard-append hear a b c gains.records k.gains.records h k.heard }
+  meets_after gains x (Err (stop.Limit n)) s a b c h k = record { gains = gains ⊕ k.gains; is = ap (after gains) k.is; heard = AllHeard-append hear a b c gains.records k.gains.records h k.heard }
+  meets_after gains x (Err stop.ReadFailed) s a b c h k = part_after gains x a b c h k
+  meets_after gains x (Err stop.TellFailed) s a b c h k = part_after gains x a b c h k
+  meets_after gains x (Err stop.NoMemory) s a b c h k = part_after gains x a b c h k
+
+  -- a first part that is done, and what follows it
+  pub meets_then : {A B : Type 0} (x : Answer A) (f : A → Reading B) (v : A) (mid : State) (r : Result B Stop) (s : State) (a b c : T)
+      → Meets hear part x (Ok v) mid a b → Meets hear part (f v mid) r s b c → Meets hear part (chain x f) r s a c
+  meets_then x f v mid r s a b c g h =
+      subst (λ y. Meets hear part (chain y f) r s a c) (sym g.is) (meets_after g.gains (f v mid) r s a b c g.heard h)
+
+  part_chain : {A B : Type 0} (x : Answer A) (f : A → Reading B) (a b : T) → MeetsPart hear part x a b → MeetsPart hear part (chain x f) a b
+  part_chain x f a b k =
+      let more = added_chain x f in
+      record { rows = k.rows; last = k.last; more = k.more ++ more.0; is = more.1 ∙ (ap (λ y. y ++ more.0) k.is ∙ append_assoc (k.rows ++ option_to_list k.last) k.more more.0); heard = k.heard }
+
+  -- a first part that stops
+  pub meets_stop : {A B : Type 0} (x : Answer A) (f : A → Reading B) (e : Stop) (s : State) (a b : T) → Meets hear part x (Err e) s a b → Meets hear part (chain x f) (Err e) s a b
+  meets_stop x f (stop.Tex n) s a b k = record { gains = k.gains; is = ap (λ x. chain x f) k.is; heard = k.heard }
+  meets_stop x f (stop.Limit n) s a b k = record { gains = k.gains; is = ap (λ x. chain x f) k.is; heard = k.heard }
+  meets_stop x f stop.ReadFailed s a b k = part_chain x f a b k
+  meets_stop x f stop.TellFailed s a b k = part_chain x f a b k
+  meets_stop x f stop.NoMemory s a b k = part_chain x f a b k
+
+  -- nothing was told yet
+  pub part_untold : {A : Type 0} (x : Answer A) (a : T) → MeetsPart hear part x a a
+  part_untold x a = record { rows = []; last = None; more = (added x).records; is = refl; heard = refl }
+
+  pub meets_silent : {A : Type 0} (x : Answer A) (r : Result A Stop) (s : State) (a : T) → Silent x r s → Meets hear part x r s a a
+  meets_silent x (Ok v) s a h = record { gains = nothing; is = h; heard = refl }
+  meets_silent x (Err (stop.Tex n)) s a h = record { gains = nothing; is = h; heard = refl }
+  meets_silent x (Err (stop.Limit n)) s a h = record { gains = nothing; is = h; heard = refl }
+  meets_silent x (Err stop.ReadFailed) s a h = absurd h
+  meets_silent x (Err stop.TellFailed) s a h = absurd h
+  meets_silent x (Err stop.NoMemory) s a h = part_untold x a
+
+  -- one record is told
+  pub meets_told : (row : Record) (s : State) (a b : T) → hear a row b → Meets hear part (tell row s) (Ok tt) s a b
+  meets_told row s a b h = record { gains = record { records = row ∷ [] }; is = refl; heard = (b, h, refl) }
+
+  pub part_told : (row : Record) (s : State) (a b : T) → part a row b → MeetsPart hear part (tell row s) a b
+  part_told row s a b h = record { rows = []; last = Some row; more = []; is = refl; heard = (a, refl, h) }
+
+  -- from what some depth gives to the one answer, and back
+  pub follows_of : {A : Type 0} (reading : ℕ → Answer A) (x : Answer A) (r : Result A Stop) (s : State) (a b : T) → Gives reading x → Meets hear part x r s a b → Follows hear part reading r s a b
+  follows_of reading x r s a b g h = record { answer = x; given = g; meets = h }
+
+-- who wants no record stays as they were, and who wants one hears it
+pub hears_not : {T : Type 0} (wants : T → Bool) (heard : T → Record → T → Type 0) (row : Record) (a : T) → wants a ≡ false → hears wants heard a row a
+hears_not wants heard row a e = subst (λ w. HearsIf w heard a row a) (sym e) refl
+
+pub hears_one : {T : Type 0} (wants : T → Bool) (heard : T → Record → T → Type 0) (row : Record) (a b : T) → wants a ≡ true → heard a row b → hears wants heard a row b
+hears_one wants heard row a b e h = subst (λ w. HearsIf w heard a row b) (sym e) h
+
+pub hears_some : {T : Type 0} (wants : T → Bool) (part : T → Record → T → Type 0) (row : Record) (a b : T) → wants a ≡ true → part a row b → hears_part wants part a row b
+hears_some wants part row a b e h = subst (λ w. HearsPartIf w part a row b) (sym e) h
+
+-- a call that reads no file may be said with any count of theirs
+pub stops_unread : {A : Type 0} (r : Result A Stop) (reads tells tells' : ℕ) (kept : Option Stop) → Stops r (outside 0 tells) (outside 0 tells') kept → Stops r (outside reads tells) (outside reads tells') kept
+stops_unread r reads tells tells' kept h = record { kept = h.kept; reads = omega arith; tells = h.tells; because = because r h.because }
+  where
+    because : {A : Type 0} (r : Result A Stop) → Because r (outside 0 tells) (outside 0 tells') → Because r (outside reads tells) (outside reads tells')
+    because (Ok v) b = tt
+    because (Err (stop.Tex f)) b = tt
+    because (Err (stop.Limit n)) b = tt
+    because (Err stop.ReadFailed) b = absurd (omega (arith, b))
+    because (Err stop.TellFailed) b = b
+    because (Err stop.NoMemory) b = tt
+
+-- one call behind another
+pub stops_then : {A B : Type 0} (v : A) (r : Result B Stop) (reads tells reads' tells' reads'' tells'' : ℕ) (k kept : Option Stop)
+    → Stops (Ok v) (outside reads tells) (outside reads' tells') k → Stops r (outside reads' tells') (outside reads'' tells'') kept → Stops r (outside reads tells) (outside reads'' tells'') kept
+stops_then v r reads tells reads' tells' reads'' tells'' k kept g h = record {
+  kept = h.kept;
+  reads = let a = g.reads in let b = h.reads in omega arith;
+  tells = let a = g.tells in let b = h.tells in omega arith;
+  because = because r h.because;
+}
+  where
+    because : {B : Type 0} (r : Result B Stop) → Because r (outside reads' tells') (outside reads'' tells'') → Because r (outside reads tells) (outside reads'' tells'')
+    because (Ok v) b = tt
+    because (Err (stop.Tex f)) b = tt
+    because (Err (stop.Limit n)) b = tt
+    because (Err stop.ReadFailed) b = let le = g.reads in omega arith
+    because (Err stop.TellFailed) b = let le = g.tells in omega arith
+    because (Err stop.NoMemory) b = tt
