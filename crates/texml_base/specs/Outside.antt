@@ -53,7 +53,7 @@ abbrev pub without : ℕ → List ℕ → List ℕ
 without id [] = []
 without id (x ∷ xs) = if x == id then xs else x ∷ without id xs
 
--- an id has given, has left and may give what it had, had and might
+-- an id is as before: what it has given, what it has left, and the number of what it may still give
 pub record SameAt (old new : Shelf) (id : ℕ) : Type 0 where
   pub given : new.given id ≡ old.given id
   pub left : new.left id ≡ old.left id
@@ -79,7 +79,7 @@ pub record IsMissing (old new : Shelf) (name : List ℕ) : Type 0 where
   pub same : new ≡ old
   pub none : IsTrue old.tells → old.contents name ≡ None
 
--- an id has given these bytes more; none only at its end
+-- an id has given these bytes more, and no byte only at its end
 pub record IsRead (old new : Shelf) (id : ℕ) (piece : List ℕ) : Type 0 where
   pub tells : new.tells ≡ old.tells
   pub contents : new.contents ≡ old.contents

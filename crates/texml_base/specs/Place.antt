@@ -1,3 +1,4 @@
+-- Where open files stand in their list.
 use Rattle.std.specs.Prelude.{ℕ, suc, List, [], ◌∷◌, if◌then◌else◌, ◌==◌}
 use Rattle.texml_base.specs.declared.opened.Opened.{Opened}
 

@@ -1,5 +1,7 @@
 //! The files of the real folder.
-ghost use Rattle.std.specs.Prelude.{◌≡◌, ◌≤◌, ◌+◌, length, [], MatchOption};
+ghost use Rattle.std.specs.Prelude.{◌≡◌, ◌≤◌, ◌<◌, ◌+◌, length, [], MatchOption, IfSome, IfOk, IsTrue, IsErrOf};
+ghost use Rattle.texml_base.specs.Outside.{Reads, HasTroubleCause, in_use};
+ghost use Rattle.texml_base.specs.Disk.{Supplies};
 
 use crate::faults::FaultCount;
 use crate::files::{Files, Trouble};
@@ -42,7 +44,7 @@ impl<R: rt::Files> DiskFiles<R> {
 }
 
 impl<R: rt::Files> Files for DiskFiles<R> {
-    ghost use Rattle.texml_base.specs.Disk.{folder_shelf, folder_faults};
+    ghost use Rattle.texml_base.specs.Disk.{folder_shelf, folder_faults, remaining_at};
 
     ghost shelf = { folder_shelf };
 
@@ -67,7 +69,15 @@ impl<R: rt::Files> Files for DiskFiles<R> {
         }
     }
 
-    fn read_file(&mut self, id: u32, into: &mut [u8]) -> Result<usize, Trouble> {
+    fn read_file(&mut self, id: u32, into: &mut [u8]) -> Result<usize, Trouble>
+        requires open { IsTrue (in_use (folder_shelf self.old).ids id) }
+        requires room { 0 < length into.old }
+        ensures read { Reads (folder_shelf self.old) (folder_shelf self.new) id result into.new }
+        ensures cause { HasTroubleCause (folder_faults self.old) (folder_faults self.new) result }
+        ensures memory { IsErrOf result Trouble.NoMemory → ⊥ }
+        ensures bytes { IfOk result (λ n. Supplies (remaining_at ⟦<R::File as Read>⟧.remaining self.old id)
+            (remaining_at ⟦<R::File as Read>⟧.remaining self.new id) n into.new) }
+    {
         let place = place_of(&self.opened, id);
         let file = &mut self.opened[place].file;
         match file.give(into) {
@@ -88,7 +98,8 @@ impl<R: rt::Files> Files for DiskFiles<R> {
 impl<F: Read> DiskFile<F> {
     // Gives the next bytes, or fails.
     fn give(&mut self, into: &mut [u8]) -> Option<usize>
-        ensures { MatchOption result (self.new.budget ≡ self.old.budget) (λ n. (n ≤ length into.new) × (self.new.budget + n ≡ self.old.budget)) }
+        ensures budget { MatchOption result (self.new.budget ≡ self.old.budget) (λ n. (n ≤ length into.new) × (self.new.budget + n ≡ self.old.budget)) }
+        ensures bytes { IfSome result (λ n. Supplies (F.remaining self.old.file) (F.remaining self.new.file) n into.new) }
     {
         if self.budget == 0 {
             return None;

@@ -4,6 +4,7 @@ use Rattle.std.specs.Option.{option_to_list}
 use Rattle.std.proofs.lemmas.Bool.{cases_lt}
 use Rattle.std.proofs.lemmas.Bool.Decides.{nat_tests}
 use Rattle.texml_token.specs.Token.{Token}
+use Rattle.texml_token.specs.declared.fault_code.TheConstants.{DEPTH}
 use Rattle.texml_scope.specs.Texts.{Meaning, Undefined, Macro, Builtin}
 use Rattle.texml_expand.specs.Next.{Taken, Given, Got, AtEnd, Invalid, next}
 use Rattle.texml_expand.specs.State.{State, Tex, Limit, Gains, nothing, Answer, Done, Ended, Unfinished, Reading, after, chain, cats_of, end_of, fault_at}
@@ -103,7 +104,7 @@ Begun s v t = (t ≡ record s { begun = s.begun + 1; nesting = s.nesting + 1 }) 
 abbrev pub begun_answer : State → Bool → Bool → Answer (Unit {0})
 begun_answer s b c =
     if b then Ended (Limit s.limit) nothing
-    else if c then Ended (Tex (fault_at 25 [] s.place)) nothing
+    else if c then Ended (Tex (fault_at DEPTH [] s.place)) nothing
     else Done tt (record s { begun = s.begun + 1; nesting = s.nesting + 1 }) nothing
 
 begun_leads : (s : State) (b c : Bool) → nat_le s.limit s.begun ≡ b → Leads (Begun s) (begun_answer s b c)

@@ -2,6 +2,7 @@
 use Rattle.std.proofs.Common.{◌≡◌, ℕ, List, [], Option, Some, None, Ok, Err, refl, sym, ap, ap₂, ◌∙◌}
 use Rattle.texml_token.specs.Token.{Token}
 use Rattle.texml_token.specs.Numbers.{Table}
+use Rattle.texml_token.specs.declared.fault_code.TheConstants.{INVALID_CHARACTER}
 use Rattle.texml_scope.specs.Texts.{World}
 use Rattle.texml_expand.specs.Rest.{Item, Place}
 use Rattle.texml_expand.specs.Next.{Taken, next, read_at, given_at, Meets}
@@ -28,7 +29,7 @@ take_ok s w rest place None same m =
 
 pub take_bad : (s : State) (rest : List (Item Token)) (place : Place) (c : ℕ)
     → Meets (next (cats_of s.world) (end_of s.world) s.rest s.place) (Err (fault.Invalid c)) rest place
-    → take s ≡ Ended (Tex (fault_at 15 [] place)) nothing
+    → take s ≡ Ended (Tex (fault_at INVALID_CHARACTER [] place)) nothing
 take_bad s rest place c m = ap (λ g. take_given g s) m
 
 pub given_ok : (texts : Table) (o : Option Read) → given_at texts (Ok o) ≡ Ok (option_at (read_at texts) o)

@@ -1,10 +1,12 @@
 -- Taking, expanding and fetching tokens (The TeXbook, chapters 20 and 24).
 use Rattle.std.specs.Prelude.{ℕ, zero, suc, ◌+◌, ◌-◌, nat_le, if◌then◌else◌, Bool, true, false, List, [], ◌∷◌, ◌++◌, map, Option, Some, None, pos, encode_utf8_all}
 use Rattle.texml_token.specs.Token.{Token, Char, Active, Named, Fixed}
+use Rattle.texml_token.specs.declared.fault_code.TheConstants.{UNDEFINED, INVALID_CHARACTER, DEPTH}
 use Rattle.texml_token.specs.Spelling.{spelled, shown}
 use Rattle.texml_scope.specs.Texts.{Name, Meaning, Undefined, Macro, Builtin, Value, Means, Number, World}
 use Rattle.texml_scope.specs.Texts.{Active as ActiveKey}
 use Rattle.texml_watch.specs.declared.record.Record.{Record}
+use Rattle.texml_expand.specs.declared.engine.TheConstants.{DEEPEST}
 use Rattle.texml_expand.specs.Rest.{Tok, back_as}
 use Rattle.texml_expand.specs.Next.{Taken, Given, Got, AtEnd, Invalid, next}
 use Rattle.texml_expand.specs.State.{State, cats_of, end_of, Tex, Limit, fault_at, nothing, Answer, Done, Ended, Unfinished, Reading, ◌>>=◌, ◌>>◌, give, fail, change, tell}
@@ -15,7 +17,7 @@ use Rattle.texml_expand.specs.State.{State, cats_of, end_of, Tex, Limit, fault_a
 abbrev pub take_given : Given → Reading (Option Taken)
 take_given (Got t rest place) s = Done (Some t) (record s { rest = rest; place = place }) nothing
 take_given (AtEnd place) s = Done None (record s { rest = []; place = place }) nothing
-take_given (Invalid c place) s = Ended (Tex (fault_at 15 [] place)) nothing
+take_given (Invalid c place) s = Ended (Tex (fault_at INVALID_CHARACTER [] place)) nothing
 
 abbrev pub take : Reading (Option Taken)
 take s = take_given (next (cats_of s.world) (end_of s.world) s.rest s.place) s
@@ -58,7 +60,7 @@ pub data Front : Type 0 where
 -- a token by what it means; without a meaning it is fault 1
 abbrev pub front_by : Token → Option Meaning → Reading Front
 front_by t None = give (Plain t)
-front_by t (Some Undefined) = fail 1 (spelling t)
+front_by t (Some Undefined) = fail UNDEFINED (spelling t)
 front_by t (Some (Macro body)) = give (Expands t (Body body))
 front_by t (Some (Builtin place)) = give (Plain t)
 
@@ -89,11 +91,11 @@ front = do
 pub record Calls : Type 0 where
   pub fetch : Reading (Option Token)
 
--- one more expansion begins and is open, unless the limit forbids it, or 400 are open
+-- one more expansion begins and is open, unless the limit forbids it, or too many are open within each other
 abbrev pub begin : Reading (Unit {0})
 begin s =
     if nat_le s.limit s.begun then Ended (Limit s.limit) nothing
-    else if nat_le 400 s.nesting then Ended (Tex (fault_at 25 [] s.place)) nothing
+    else if nat_le DEEPEST s.nesting then Ended (Tex (fault_at DEPTH [] s.place)) nothing
     else Done tt (record s { begun = s.begun + 1; nesting = s.nesting + 1 }) nothing
 
 -- what an expansion gives

@@ -4,6 +4,7 @@ ghost use Rattle.std.specs.Str.{IsUtf8, chars};
 ghost use Rattle.std.specs.Borrow.{sem};
 ghost use Rattle.texml_base.specs.Rising.{add_up};
 ghost use Rattle.texml_token.specs.Numbers.{token_at, tokens_at, TokenWithin, TokensWithin};
+ghost use Rattle.texml_token.specs.declared.fault_code.TheConstants.{UNDEFINED};
 ghost use Rattle.texml_text.specs.Lines.{lines, without_mark};
 ghost use Rattle.texml_expand.specs.Next.{read_at};
 ghost use Rattle.texml_scope.specs.Numbers.{meaning_at, key_at, KeyWithin};
@@ -26,7 +27,7 @@ use std::marker::Model;
 use std::str;
 use texml_base::{Budget, Files, Steps, Trouble};
 use texml_scope::{Key, Macro, Meaning, Scope, Value};
-use texml_token::{Bytes, Fault, Name, Names, Token, Tokens, show, spell};
+use texml_token::{Bytes, Fault, Name, Names, Token, Tokens, fault_code, show, spell};
 use texml_watch::{Record, Teller};
 
 // What stands at the end of each loaded line.
@@ -367,7 +368,7 @@ impl Engine {
             Ok(read) => Ok(read),
             Err(RestFault::Invalid(_)) => {
                 let about = Bytes::new(self.alloc);
-                Err(self.fault(15, &about))
+                Err(self.fault(fault_code::INVALID_CHARACTER, &about))
             }
             Err(RestFault::NoMemory) => Err(self.no_memory()),
         }
@@ -430,12 +431,12 @@ impl Engine {
     fn undefined(&mut self, token: Token) -> Stop
         requires running { self.old.stop ≡ None }
         requires token { TokenWithin (length self.old.names) token }
-        ensures is { IsFaultAt 1 (spelling (token_at self.old.names token)) self.old.place result }
+        ensures is { IsFaultAt UNDEFINED (spelling (token_at self.old.names token)) self.old.place result }
         ensures kept { self.new ≡ record self.old { stop = Some result } }
     {
         let mut about = Bytes::new(self.alloc);
         match spell(token, ESCAPE, &self.names, &mut about) {
-            Ok(()) => self.fault(1, &about),
+            Ok(()) => self.fault(fault_code::UNDEFINED, &about),
             Err(_) => self.no_memory(),
         }
     }
@@ -471,7 +472,7 @@ impl Engine {
         }
         if self.nesting >= DEEPEST {
             let about = Bytes::new(self.alloc);
-            return Err(self.fault(25, &about));
+            return Err(self.fault(fault_code::DEPTH, &about));
         }
         self.nesting += 1;
         Ok(())

@@ -1,12 +1,14 @@
-ghost use Rattle.std.specs.Prelude.{◌≡◌, None, IfOk};
-ghost use Rattle.texml_expand.specs.Held.{Sound};
+ghost use Rattle.std.specs.Prelude.{◌≡◌, None, IfOk, IsSome};
+ghost use Rattle.texml_token.specs.Token.{Active};
+ghost use Rattle.texml_expand.specs.Held.{Sound, state_of};
+ghost use Rattle.texml_expand.specs.Expand.{expandable, meaning_of};
 
 use crate::engine::Engine;
 use crate::stop::Stop;
 use std::alloc::Global;
 use std::test::Fail;
 use texml_base::{CalmFiles, Steps};
-use texml_scope::Scope;
+use texml_scope::{Key, Macro, Meaning, Scope, Value};
 use texml_token::{Bytes, Names, Token, Tokens};
 use texml_watch::Silent;
 
@@ -65,5 +67,40 @@ fn a_stopped_engine_answers_its_stop(rt: HostRuntime) -> Result<(), Fail> {
     engine.wrote(&steps);
     assert_eq!(rt; engine.writes(), 1);
     assert_eq!(rt; engine.begun(), 0);
+    Ok(())
+}
+
+// An engine for which `~` means a macro with the body `x`.
+fn with_macro(alloc: Global, limit: u64) -> Result<Engine, Fail>
+    ensures { IfOk result (λ e. (e.stop ≡ None) × Sound e × IsSome (expandable (meaning_of (state_of e).world (Active 126)))) }
+{
+    let names = Names::new(alloc);
+    let _given = names.given();
+    let mut body = Tokens::new(alloc);
+    body.push(Token::Char(120, 11))?;
+    let mut scope = Scope::new(alloc);
+    let value = Value::Means(Meaning::Macro(Macro { body }));
+    scope.set(Key::Active(126), value, &mut Steps::new())?;
+    let main = Bytes::from_slice(alloc, b"main.tex")?;
+    Ok(Engine::new(alloc, scope, names, main, limit))
+}
+
+#[test]
+fn tokens_are_expanded(rt: HostRuntime) -> Result<(), Fail> {
+    let alloc = rt.alloc();
+    let mut files = CalmFiles::new(alloc, 1);
+    let mut engine = with_macro(alloc, 2)?;
+    engine.expand_once(&mut files, &mut Silent, Token::Active(126))?;
+    assert_eq!(rt; engine.begun(), 1);
+    let letter = engine.fetch(&mut files, &mut Silent)?;
+    assert_eq!(rt; letter, Some(Token::Char(120, 11)));
+    engine.back(Token::Active(126), false)?;
+    let letter = engine.fetch(&mut files, &mut Silent)?;
+    assert_eq!(rt; letter, Some(Token::Char(120, 11)));
+    engine.back(Token::Active(126), false)?;
+    match engine.fetch(&mut files, &mut Silent) {
+        Err(Stop::Limit(limit)) => assert_eq!(rt; limit, 2),
+        _ => assert!(rt; false),
+    }
     Ok(())
 }

@@ -3,3 +3,4 @@ pub mod Naming
 pub mod Biting
 pub mod Left
 pub mod Falls
+pub mod Rows

@@ -13,7 +13,7 @@ hex_value x = if nat_lt x 58 then x - 48 else x - 87
 abbrev pub hex_code : ℕ → ℕ → ℕ
 hex_code x y = 16 * hex_value x + hex_value y
 
--- the character that one character below 128 stands for
+-- the character that one character below 128 stands for: its code is greater or less by 64
 abbrev pub turned : ℕ → ℕ
 turned x = if nat_lt x 64 then x + 64 else x - 64
 

@@ -77,23 +77,20 @@ pub inner_decided : (s : State) → IsDecided (inner_token s)
 inner_decided s = chain_decided (λ o u. Unit {0}) (take s) inside (take_decided s) (any (take s)) (λ o u _. inside_decided o u)
 
 -- one more token behind a list
-pub one_more : List Token → Reading (List Token)
+abbrev pub one_more : List Token → Reading (List Token)
 one_more list = do
   t ← inner_token
   give (list ++ t ∷ [])
 
 more_takes : (k : ℕ) (list : List Token) (s t : State) → Takes k s t → Leads (λ l u. Takes (suc k) s u) (one_more list t)
-unfolding one_more
 more_takes k list s t h =
     leads_chain (λ y u. Takes 1 t u) (λ l u. Takes (suc k) s u) (inner_token t) _ (inner_takes t)
     (λ y u g. takes_then k 1 (suc k) s t u h g (omega arith))
 
 more_decided : (list : List Token) (t : State) → IsDecided (one_more list t)
-unfolding one_more
 more_decided list t = chain_decided (λ y u. Unit {0}) (inner_token t) _ (inner_decided t) (any (inner_token t)) (λ y u _. tt)
 
-next_more : (k : ℕ) (s : State) → next_tokens (suc k) s ≡ chain (next_tokens k s) one_more
-unfolding one_more
+pub next_more : (k : ℕ) (s : State) → next_tokens (suc k) s ≡ chain (next_tokens k s) one_more
 next_more k s = refl
 
 pub next_tokens_take : (k : ℕ) (s : State) → Leads (λ list t. Takes k s t) (next_tokens k s)

@@ -62,7 +62,7 @@ settles_chain : {A B : Type 0} (a : ℕ → Answer A) (f : ℕ → A → Reading
     → ((v : A) (s : State) (gains : Gains) → a d ≡ Done v s gains → Settles (λ n. f n v s)) → Settles (λ n. chain (a n) (f n))
 settles_chain a f ma mf d h k = chain_at a f ma mf d (a d) refl h k
 
-leads_at : {A : Type 0} (P : A → State → Type 0) (a : Answer A) (v : A) (s : State) (gains : Gains) → a ≡ Done v s gains → Leads P a → P v s
+pub leads_at : {A : Type 0} (P : A → State → Type 0) (a : Answer A) (v : A) (s : State) (gains : Gains) → a ≡ Done v s gains → Leads P a → P v s
 leads_at P a v s gains e h = subst (Leads P) e h
 
 -- what was fetched, where digestion settles behind it
@@ -85,7 +85,7 @@ turn_settles e z below less seen s h k =
     (λ o t gains is.
     next_settles seen o s t (leads_at (λ o t. Lower (count o) s t) (fetches s (depth s)) o t gains is (level_leads (depth s) s))
     (λ seen u l. elim (eq-or-lt_of_le l.begun) [
-        inl same ↦ (let size = l.size (sym same) in let limit = l.limit in less seen u (omega arith) (omega arith))
+      | inl same ↦ (let size = l.size (sym same) in let limit = l.limit in less seen u (omega arith) (omega arith))
       | inr more ↦ (let under = l.below more in let limit = l.limit in below seen u (omega arith))
     ])))
 

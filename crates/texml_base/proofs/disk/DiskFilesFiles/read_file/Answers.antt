@@ -21,7 +21,7 @@ returns-in-Some-clause-read g c =
     let same : old.id ≡ id = ap (λ o. o.id) was ∙ found.1 in
     let wrote = ap (λ p. set os p (record { id = old.id; file = new })) at in
     let after = ap (λ l. held l id) wrote ∙ held-set_same id os (record { id = old.id; file = new }) same used in
-    let gave = c.in-Some.ensures in (
+    let gave = c.in-Some.ensures.budget in (
       gave.0,
       record {
         tells = refl;
@@ -53,4 +53,20 @@ returns-in-None-clause-read g c =
     let before : held os id ≡ Some old.file = found.0 ∙ ap (λ o. Some o.file) (sym was) in
     let same : old.id ≡ id = ap (λ o. o.id) was ∙ found.1 in
     ap (λ p. disk_shelf (set os p (record { id = old.id; file = new }))) at
-    ∙ disk_shelf-set id os old.file (record { id = old.id; file = new }) used before same c.in-None.ensures
+    ∙ disk_shelf-set id os old.file (record { id = old.id; file = new }) used before same c.in-None.ensures.budget
+
+pub returns-in-Some-clause-bytes : goal.returns-in-Some-clause-bytes
+returns-in-Some-clause-bytes g c =
+    let id = c.args.id in
+    let used = c.requires.open in
+    let os = c.args.self.now.opened.items in
+    let old = c.index_mut.result.now in
+    let new = c.give.new.self in
+    let at : c.place_of-place.result ≡ place id os = rw c.deref.ensures.value at c.place_of-place.ensures.first in
+    let was : old ≡ get_or os (place id os) old = rw at at c.index_mut.ensures.value in
+    let found = held-place id os old used in
+    let before : held os id ≡ Some old.file = found.0 ∙ ap (λ o. Some o.file) (sym was) in
+    let same : old.id ≡ id = ap (λ o. o.id) was ∙ found.1 in
+    let after = ap (λ p. held (set os p (record { id = old.id; file = new })) id) at
+    ∙ held-set_same id os (record { id = old.id; file = new }) same used in
+    rw (after, before) c.in-Some.ensures.bytes

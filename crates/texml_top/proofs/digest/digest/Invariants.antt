@@ -1,0 +1,27 @@
+use Rattle.std.proofs.Common.{◌≡◌, ◌-◌}
+use Rattle.texml_expand.specs.State.{room}
+use Rattle.texml_expand.specs.Held.{state_of}
+use Rattle.texml_expand.specs.Hearing.{hears, hears_part}
+use Rattle.texml_top.proofs.Turns.{Digesting}
+use Rattle.texml_top.proofs.digest.digest.Given as goal
+
+abbrev pub invariant-rounds : goal.invariant-rounds
+invariant-rounds g l = record {
+  digesting : Digesting (hears g.T.Teller.wanting g.T.Teller.heard) (hears_part g.T.Teller.wanting g.T.Teller.part) g.T.Teller.faults l.fn.engine l.fn.tell l.seen.items l.engine l.tell;
+  files : l.files ≡ l.fn.files;
+}
+
+abbrev pub decreases-rounds : goal.decreases-rounds
+decreases-rounds g l = l.engine.limit - l.engine.begun
+
+abbrev pub invariant-tokens : goal.invariant-tokens
+invariant-tokens g l = record {
+  digesting : Digesting (hears g.T.Teller.wanting g.T.Teller.heard) (hears_part g.T.Teller.wanting g.T.Teller.part) g.T.Teller.faults l.fn.engine l.fn.tell l.seen.items l.engine l.tell;
+  files : l.files ≡ l.fn.files;
+  begun : l.engine.begun ≡ l.begun;
+  same : l.begun ≡ l.initial.engine.begun;
+  limit : l.engine.limit ≡ l.initial.engine.limit;
+}
+
+abbrev pub decreases-tokens : goal.decreases-tokens
+decreases-tokens g l = room (state_of l.engine)
