@@ -1,25 +1,30 @@
 -- What the words of a command line ask for.
-use Rattle.std.specs.Prelude.{ℕ, ◌&&◌, List, [], ◌∷◌, length, if◌then◌else◌, codes, Option, None, Some, Result, Err}
+use Rattle.std.specs.Prelude.{ℕ, ◌==◌, ◌&&◌, not, Bool, true, false, List, [], ◌∷◌, length, if◌then◌else◌, codes, Option, None, Some, Result, Err}
 use Rattle.std.specs.Char.{is_ascii_digit}
 use Rattle.std.specs.Int.{is_in_range}
 use Rattle.std.specs.List.{list_all}
 use Rattle.std.specs.Option.{ok_or}
 use Rattle.std.specs.Str.{bytes_eq}
 use Rattle.std.specs.Str.Parse.{digits_value}
-use Rattle.texml_top.specs.Words.{is_positional}
 use Rattle.texml_top.specs.declared.request.Command.{Command}
 use Rattle.texml_top.specs.declared.request.Command.TheVariants.{Convert, Expand}
 use Rattle.texml_top.specs.declared.request.Request.{Request as RequestCode}
 
--- a command on a file, and how many steps it may take
+-- a command on a file, and how many expansions may begin
 pub record Request : Type 0 where
   pub command : Command
   pub file : List ℕ
   pub limit : ℕ
 
--- how many steps it may take where the words don't say
+-- how many expansions may begin where the words don't say
 abbrev pub usual_limit : ℕ
 usual_limit = 10000000
+
+-- a word that stands for a file: not empty, and not an option
+abbrev pub is_positional : List ℕ → Bool
+is_positional [] = false
+is_positional (c ∷ []) = true
+is_positional (c ∷ d ∷ cs) = not (c == 45)
 
 -- the number that one to ten decimal digits write, if it is between 1 and 1,000,000,000
 abbrev pub limit_of : List ℕ → Option ℕ

@@ -2,10 +2,9 @@
 ghost use Rattle.std.specs.Prelude.{◌≡◌, map, string_bytes, MatchOption, MatchResult, None, Some, Ok, Err};
 ghost use Rattle.std.specs.Char.{is_ascii_digit};
 ghost use Rattle.std.specs.List.{list_all};
-ghost use Rattle.texml_top.specs.Words.{is_positional};
-ghost use Rattle.texml_top.specs.Request.{asked, limit_of, read_as, request_of};
+ghost use Rattle.texml_top.specs.Request.{asked, is_positional, limit_of, read_as, request_of};
 
-// How many steps a run may take where the words don't say.
+// How many expansions may begin where the words don't say.
 const USUAL_LIMIT: u64 = 10_000_000;
 
 // The greatest limit that the words may give.
@@ -20,7 +19,7 @@ pub enum Command {
     Expand,
 }
 
-/// A command on a file, and how many steps it may take.
+/// A command on a file, and how many expansions may begin.
 #[derive(Clone, Copy, Debug, PartialEq, Eq)]
 pub struct Request<'a> {
     pub command: Command,
