@@ -1,5 +1,5 @@
 -- How a command and a run may end.
-use Rattle.std.proofs.Common.{◌≡◌, ◌≢◌, ◌≤◌, ℕ, List, [], ◌∷◌, ◌++◌, take, IsTrue, Option, Some, None, Result, Ok, Err, refl, sym, ap, ◌∙◌, subst, arith, append-nil, append_assoc}
+use Rattle.std.proofs.Common.{◌≡◌, ◌≢◌, ℕ, List, [], ◌∷◌, ◌++◌, IsTrue, Option, Some, None, Result, Ok, Err, refl, sym, ap, ◌∙◌, subst, arith, append-nil, append_assoc}
 use Rattle.std.specs.Option.{option_to_list}
 use Rattle.texml_base.specs.Outside.{Shelf, Ink, inked}
 use Rattle.texml_base.specs.Rising.{Rose}
@@ -10,16 +10,16 @@ use Rattle.texml_watch.specs.Writing.{Lent, Wrote, WrotePart as WroteLine}
 use Rattle.texml_watch.proofs.Hearing.{Wrote-trace, Wrote-within, Wrote-front, WroteWithin-front}
 use Rattle.texml_expand.specs.declared.stop.Stop.{Stop}
 use Rattle.texml_expand.specs.declared.stop.Stop.TheVariants as stop
-use Rattle.texml_expand.specs.State.{State, End, Answer, Tex, Limit, Done, Ended, IsDecided, added}
+use Rattle.texml_expand.specs.State.{State, End, Answer, Tex, Limit, Done, Ended, added}
 use Rattle.texml_expand.specs.Held.{Held, state_of}
 use Rattle.texml_expand.specs.Contract.{Gives, Because, outside}
-use Rattle.texml_expand.specs.Hearing.{HeardLast, MeetsDone, MeetsEnd, MeetsPart, Meets, Follows}
+use Rattle.texml_expand.specs.Hearing.{HeardLast, MeetsEnd, MeetsPart, Follows}
 use Rattle.texml_top.specs.Request.{Request, asked}
 use Rattle.texml_top.specs.declared.request.Command.{Command}
 use Rattle.texml_top.specs.declared.request.Command.TheVariants.{Convert, Expand}
 use Rattle.texml_top.specs.Digest.{digests}
 use Rattle.texml_top.specs.Page.{page}
-use Rattle.texml_top.specs.Outcome.{Outcome, refused, text_of, status_of, IsOutcomeFrom, OfOutcome, FromState}
+use Rattle.texml_top.specs.Outcome.{Outcome, refused, text_of, status_of, OfOutcome, FromState}
 use Rattle.texml_top.specs.Start.{IsFirst, Starts}
 use Rattle.texml_top.specs.Run.{stopped, EndsAs, WrotePart, MayEnd, HasRunCause, WritesPage, PageAsked, WholeLines, LinesBy, LinesAsked}
 use Rattle.texml_top.specs.declared.material.Material.{Material}

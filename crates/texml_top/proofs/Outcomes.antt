@@ -1,7 +1,6 @@
 -- A run has one outcome.
 use Rattle.std.proofs.Common.{◌≡◌, ℕ, List, [], Result, Ok, Err, refl, sym, ap, ◌∙◌, subst}
 use Rattle.std.specs.declared.option.Option.{Option}
-use Rattle.texml_watch.specs.declared.record.Record.{Record}
 use Rattle.texml_watch.specs.Trace.{trace}
 use Rattle.texml_expand.specs.State.{State, Answer, Done, Ended, Unfinished, IsDecided, added}
 use Rattle.texml_expand.specs.Contract.{Gives}
@@ -10,7 +9,7 @@ use Rattle.texml_top.specs.declared.request.Command.{Command}
 use Rattle.texml_top.specs.declared.request.Command.TheVariants.{Convert, Expand}
 use Rattle.texml_top.specs.Digest.{digests}
 use Rattle.texml_top.specs.Page.{page}
-use Rattle.texml_top.specs.Outcome.{Outcome, refused, text_of, first_state, status_of, IsOutcomeBy, IsOutcomeFrom, IsOutcomeOf, IsOutcomeAsked, IsOutcome, OneOutcome, WithOutcome, OfOutcome, FromState}
+use Rattle.texml_top.specs.Outcome.{Outcome, refused, text_of, first_state, status_of, IsOutcomeBy, IsOutcomeFrom, IsOutcomeOf, IsOutcomeAsked, OneOutcome, WithOutcome, OfOutcome, FromState}
 use Rattle.texml_top.specs.declared.material.Material.{Material}
 use Rattle.texml_top.specs.declared.status.Status.{Status}
 use Rattle.texml_top.specs.declared.status.Status.TheVariants as status

@@ -1,5 +1,5 @@
 use Rattle.texml_watch.specs.Lending.{lent_by}
-use Rattle.texml_top.proofs.Ending.{expand_loan, expand_done, expand_stops, expand_lines, stop_cause}
+use Rattle.texml_top.proofs.Ending.{expand_loan, expand_done, expand_stops, expand_lines}
 use Rattle.texml_top.proofs.top.trace.Goals as goal
 
 pub returns-in-Ok-clause-loan : goal.returns-in-Ok-clause-loan
