@@ -1,4 +1,5 @@
-//! The program: `texml convert FILE` writes the HTML of a file to standard output.
+//! The program: `texml convert FILE` writes the HTML of a file to standard output, and `texml expand FILE` a line for each
+//! expansion.
 //!
 //! It makes the real folder and the two standard streams, calls `run` of texml_top, whose contract says what the run
 //! gives, and ends with the exit status of that. It stands on texml_base and texml_top.
@@ -54,6 +55,7 @@ fn code_of(status: &Status) -> u8
         Status::Done => 0,
         Status::Tex(_) => 1,
         Status::Usage(_) => 2,
+        Status::Limit(_) => 5,
         Status::ReadFault => 6,
         Status::WriteFault => 7,
         Status::NoMemory => 8,

@@ -1,58 +1,238 @@
--- How a conversion and a run may end.
-use Rattle.std.proofs.Common.{◌≡◌, ◌≢◌, ℕ, List, [], Result, Ok, Err, refl, sym, ap, ◌∙◌}
-use Rattle.std.specs.declared.option.Option.{Option}
-use Rattle.texml_base.specs.Outside.{Ink, inked}
+-- How a command and a run may end.
+use Rattle.std.proofs.Common.{◌≡◌, ◌≢◌, ℕ, List, [], ◌∷◌, ◌++◌, IsTrue, Option, Some, None, Result, Ok, Err, refl, sym, ap, ◌∙◌, subst, arith, append-nil, append_assoc}
+use Rattle.std.specs.Option.{option_to_list}
+use Rattle.texml_base.specs.Outside.{Shelf, Ink, inked}
+use Rattle.texml_base.specs.Rising.{Rose}
 use Rattle.texml_base.proofs.Taking.{inked-nil}
-use Rattle.texml_top.specs.Outcome.{written, asked_outcome, outcome, converted}
-use Rattle.texml_top.specs.Faults.{fault, IsFault, IsRefusal}
-use Rattle.texml_top.specs.Words.{asked}
-use Rattle.texml_top.specs.Run.{MayEnd}
+use Rattle.texml_watch.specs.declared.record.Record.{Record}
+use Rattle.texml_watch.specs.Trace.{trace, trace_line}
+use Rattle.texml_watch.specs.Writing.{Lent, Wrote, WrotePart as WroteLine}
+use Rattle.texml_watch.proofs.Hearing.{Wrote-trace, Wrote-within, Wrote-front, WroteWithin-front}
+use Rattle.texml_expand.specs.declared.stop.Stop.{Stop}
+use Rattle.texml_expand.specs.declared.stop.Stop.TheVariants as stop
+use Rattle.texml_expand.specs.State.{State, End, Answer, Tex, Limit, Done, Ended, added}
+use Rattle.texml_expand.specs.Held.{Held, state_of}
+use Rattle.texml_expand.specs.Contract.{Gives, Because, outside}
+use Rattle.texml_expand.specs.Hearing.{HeardLast, MeetsEnd, MeetsPart, Follows}
+use Rattle.texml_top.specs.Request.{Request, asked}
+use Rattle.texml_top.specs.declared.request.Command.{Command}
+use Rattle.texml_top.specs.declared.request.Command.TheVariants.{Convert, Expand}
+use Rattle.texml_top.specs.Digest.{digests}
+use Rattle.texml_top.specs.Page.{page}
+use Rattle.texml_top.specs.Outcome.{Outcome, refused, text_of, status_of, OfOutcome, FromState}
+use Rattle.texml_top.specs.Start.{IsFirst, Starts}
+use Rattle.texml_top.specs.Run.{stopped, EndsAs, WrotePart, MayEnd, HasRunCause, WritesPage, PageAsked, WholeLines, LinesBy, LinesAsked}
+use Rattle.texml_top.specs.declared.material.Material.{Material}
 use Rattle.texml_top.specs.declared.status.Status.{Status}
-use Rattle.texml_top.specs.declared.status.Status.TheVariants.{Done, Usage, Tex, ReadFault, WriteFault, NoMemory}
+use Rattle.texml_top.specs.declared.status.Status.TheVariants as status
+use Rattle.texml_top.proofs.Outcomes.{outcome_by, is_by, expand_bytes, expand_records, is_from, of_any, from_any, of_fault, of_state}
 
-pub refusal_from_fault : (code : ℕ) (file about : List ℕ) (all : Result (List ℕ) Status) (s : Status) → all ≡ Err (fault code file about)
-    → IsFault code file about s → IsRefusal all s
-refusal_from_fault code file about all Done e h = h
-refusal_from_fault code file about all (Usage k) e h = h
-refusal_from_fault code file about all (Tex f) e h = e ∙ ap (λ s. Err s) (sym h)
-refusal_from_fault code file about all ReadFault e h = h
-refusal_from_fault code file about all WriteFault e h = h
-refusal_from_fault code file about all NoMemory e h = tt
+-- nothing was written
+pub none_written : (bytes : List ℕ) (ink : Ink) → WrotePart bytes ink ink
+none_written bytes ink = (0, sym (inked-nil ink))
 
--- a refusal of a part is one of the whole
-pub refusal_carried : {A B : Type 0} (part : Result A Status) (all : Result B Status) (s : Status) → ((t : Status) → part ≡ Err t → all ≡ Err t)
-    → IsRefusal part s → IsRefusal all s
-refusal_carried part all Done carried h = h
-refusal_carried part all (Usage k) carried h = h
-refusal_carried part all (Tex f) carried h = carried (Tex f) h
-refusal_carried part all ReadFault carried h = h
-refusal_carried part all WriteFault carried h = h
-refusal_carried part all NoMemory carried h = tt
+pub refused_ends : (s : Status) (ink : Ink) → EndsAs s (refused s) ink ink
+refused_ends s ink = (refl, sym (inked-nil ink))
 
--- what is not done has no bytes
-no_bytes : (r : Result (List ℕ) Status) → (written r).status ≢ Done → (written r).bytes ≡ []
-no_bytes (Ok html) ne = absurd (ne refl)
-no_bytes (Err s) ne = refl
+pub no_lines : (all : Outcome) (ink : Ink) → WholeLines all ink ink
+no_lines all ink = ([], all.records, refl, sym (inked-nil ink))
 
-asked_bytes : (r : Result (List ℕ) ℕ) (contents : List ℕ → Option (List ℕ)) → (asked_outcome r contents).status ≢ Done → (asked_outcome r contents).bytes ≡ []
-asked_bytes (Ok file) contents ne = no_bytes (converted file (contents file)) ne
-asked_bytes (Err k) contents ne = refl
+pub no_lines_by : (command : Command) (all : Outcome) (ink : Ink) → LinesBy command all ink ink
+no_lines_by Convert all ink = tt
+no_lines_by Expand all ink = no_lines all ink
 
-pub outcome_bytes : (words : List (List ℕ)) (contents : List ℕ → Option (List ℕ)) → (outcome words contents).status ≢ Done → (outcome words contents).bytes ≡ []
-outcome_bytes words contents ne = asked_bytes (asked words) contents ne
+-- the page has bytes
+pub page_some : (material : List Material) → page material ≢ []
+page_some material = λ e. cc
 
-unchanged : (s : Status) (words : List (List ℕ)) (contents : List ℕ → Option (List ℕ)) (old new : Ink) → s ≢ Done
-    → (outcome words contents).status ≡ s → new ≡ old → (s ≡ (outcome words contents).status) × (new ≡ inked old (outcome words contents).bytes)
-unchanged s words contents old new ne e same =
-    (sym e, same ∙ sym (inked-nil old) ∙ ap (inked old) (sym (outcome_bytes words contents (λ d. ne (sym e ∙ d)))))
+-- convert, by what digestion answers to whom nobody is told
+module _ {T : Type 0} (hear part : T → Record → T → Type 0) where
+  pub convert_done : (v : List Material) (s new : State) (a b : T) (Has : Outcome → Type 0) → Follows hear part (digests [] s) (Ok v) new a b
+      → ((all : Outcome) → all.status ≡ status.Done → all.bytes ≡ page v → Has all) → FromState Convert s Has
+  convert_done v s new a b Has g h =
+      let all : Outcome = record { status = status.Done; bytes = page v; records = g.meets.gains.records } in
+      record { all = all; is = is_from Convert s g.answer (Done v new g.meets.gains) all g.given g.meets.is refl; has = h all refl refl }
 
--- Where the files tell what they hold, and nothing failed, a run that may end so ends with the outcome.
-pub outcome_from_cause : (s : Status) (told files_rose out_rose : Type 0) (words : List (List ℕ)) (contents : List ℕ → Option (List ℕ)) (old new : Ink)
-    → MayEnd s told files_rose out_rose (outcome words contents) old new → told → (files_rose → ⊥) → (out_rose → ⊥) → s ≢ NoMemory
-    → (s ≡ (outcome words contents).status) × (new ≡ inked old (outcome words contents).bytes)
-outcome_from_cause Done told fr or words contents old new h t nf calm nm = (sym (h t).0, (h t).1)
-outcome_from_cause (Usage k) told fr or words contents old new h t nf calm nm = unchanged (Usage k) words contents old new (λ e. cc) h.0 h.1
-outcome_from_cause (Tex f) told fr or words contents old new h t nf calm nm = unchanged (Tex f) words contents old new (λ e. cc) (h.0 t) h.1
-outcome_from_cause ReadFault told fr or words contents old new h t nf calm nm = absurd (nf h.0)
-outcome_from_cause WriteFault told fr or words contents old new h t nf calm nm = absurd (calm h.0)
-outcome_from_cause NoMemory told fr or words contents old new h t nf calm nm = absurd (nm refl)
+  convert_ends : (e : End) (s : State) (a b : T) (ink : Ink) (answer : Answer (List Material)) → Gives (digests [] s) answer → MeetsEnd hear part answer e a b
+      → FromState Convert s (λ all. EndsAs (status_of e) all ink ink)
+  convert_ends e s a b ink answer g m =
+      let all : Outcome = record { status = status_of e; bytes = []; records = m.gains.records } in
+      record { all = all; is = is_from Convert s answer (Ended e m.gains) all g m.is refl; has = (refl, sym (inked-nil ink)) }
+
+  pub convert_stops : (e : Stop) (s new : State) (a b : T) (ink : Ink) → Follows hear part (digests [] s) (Err e) new a b → FromState Convert s (λ all. MayEnd (stopped e) all ink ink)
+  convert_stops (stop.Tex f) s new a b ink g = convert_ends (Tex f) s a b ink g.answer g.given g.meets
+  convert_stops (stop.Limit n) s new a b ink g = convert_ends (Limit n) s a b ink g.answer g.given g.meets
+  convert_stops stop.ReadFailed s new a b ink g = from_any Convert s _ (λ all. none_written all.bytes ink)
+  convert_stops stop.TellFailed s new a b ink g = from_any Convert s _ (λ all. none_written all.bytes ink)
+  convert_stops stop.NoMemory s new a b ink g = from_any Convert s _ (λ all. none_written all.bytes ink)
+
+-- nobody is told, so that telling can't fail
+pub silent_page : (e : Stop) (all : Outcome) (reads reads' : ℕ) → Because {A = List Material} (Err e) (outside reads 0) (outside reads' 0) → WritesPage Convert (stopped e) all
+silent_page (stop.Tex f) all reads reads' h = tt
+silent_page (stop.Limit n) all reads reads' h = tt
+silent_page stop.ReadFailed all reads reads' h = tt
+silent_page stop.TellFailed all reads reads' h = absurd (omega (arith, h))
+silent_page stop.NoMemory all reads reads' h = tt
+
+-- expand, by what digestion answers where its trace is written
+module _ {T : Type 0} (lent : T → Lent) where
+  abbrev Hears : T → Record → T → Type 0
+  Hears a news b = Wrote (lent a) (trace_line news) (lent b)
+
+  abbrev HearsPart : T → Record → T → Type 0
+  HearsPart a news b = WroteLine (lent a) (trace_line news) (lent b)
+
+  pub expand_done : (v : List Material) (s new : State) (a b : T) → Follows Hears HearsPart (digests [] s) (Ok v) new a b → FromState Expand s (λ all. MayEnd status.Done all (lent a).ink (lent b).ink)
+  expand_done v s new a b g =
+      let all : Outcome = record { status = status.Done; bytes = trace g.meets.gains.records; records = g.meets.gains.records } in
+      record { all = all; is = is_from Expand s g.answer (Done v new g.meets.gains) all g.given g.meets.is refl; has = (refl, (Wrote-trace lent a b g.meets.gains.records g.meets.heard).ink) }
+
+  expand_ends : (e : End) (s : State) (a b : T) (answer : Answer (List Material)) → Gives (digests [] s) answer → MeetsEnd Hears HearsPart answer e a b
+      → FromState Expand s (λ all. EndsAs (status_of e) all (lent a).ink (lent b).ink)
+  expand_ends e s a b answer g m =
+      let all : Outcome = record { status = status_of e; bytes = trace m.gains.records; records = m.gains.records } in
+      record { all = all; is = is_from Expand s answer (Ended e m.gains) all g m.is refl; has = (refl, (Wrote-trace lent a b m.gains.records m.heard).ink) }
+
+  part_written : (rows more : List Record) (last : Option Record) (a b : T) → HeardLast Hears HearsPart rows last a b → WrotePart (trace (rows ++ option_to_list last ++ more)) (lent a).ink (lent b).ink
+  part_written rows more None a b h =
+      subst (λ l. WrotePart (trace (l ++ more)) (lent a).ink (lent b).ink) (sym (append-nil rows)) (Wrote-front (lent a) (lent b) rows more (Wrote-trace lent a b rows h))
+  part_written rows more (Some last) a b h =
+      subst (λ l. WrotePart (trace l) (lent a).ink (lent b).ink) (sym (append_assoc rows (last ∷ []) more)) (WroteWithin-front (lent a) (lent b) rows last more (Wrote-within lent a h.0 b rows last h.1 h.2))
+
+  part_whole : (rows : List Record) (last : Option Record) (a b : T) → HeardLast Hears HearsPart rows last a b → (Rose (lent a).faults (lent b).faults → ⊥) → (lent b).ink ≡ inked (lent a).ink (trace rows)
+  part_whole rows None a b h calm = (Wrote-trace lent a b rows h).ink
+  part_whole rows (Some last) a b h calm = (Wrote-within lent a h.0 b rows last h.1 h.2).whole calm
+
+  -- the sink is lent still
+  part_loan : (rows : List Record) (last : Option Record) (a b : T) → HeardLast Hears HearsPart rows last a b → (lent b).loan ≡ (lent a).loan
+  part_loan rows None a b h = (Wrote-trace lent a b rows h).loan
+  part_loan rows (Some last) a b h = (Wrote-within lent a h.0 b rows last h.1 h.2).loan
+
+  pub expand_loan : (r : Result (List Material) Stop) (s new : State) (a b : T) → Follows Hears HearsPart (digests [] s) r new a b → (lent b).loan ≡ (lent a).loan
+  expand_loan (Ok v) s new a b g = (Wrote-trace lent a b g.meets.gains.records g.meets.heard).loan
+  expand_loan (Err (stop.Tex f)) s new a b g = (Wrote-trace lent a b g.meets.gains.records g.meets.heard).loan
+  expand_loan (Err (stop.Limit n)) s new a b g = (Wrote-trace lent a b g.meets.gains.records g.meets.heard).loan
+  expand_loan (Err stop.ReadFailed) s new a b g = part_loan g.meets.rows g.meets.last a b g.meets.heard
+  expand_loan (Err stop.TellFailed) s new a b g = part_loan g.meets.rows g.meets.last a b g.meets.heard
+  expand_loan (Err stop.NoMemory) s new a b g = part_loan g.meets.rows g.meets.last a b g.meets.heard
+
+  -- the outcome, where its trace was written in part
+  expand_part : (s : State) (a b : T) (answer : Answer (List Material)) → Gives (digests [] s) answer → MeetsPart Hears HearsPart answer a b → FromState Expand s (λ all. WrotePart all.bytes (lent a).ink (lent b).ink)
+  expand_part s a b answer g m =
+      record {
+        all = outcome_by Expand answer;
+        is = is_from Expand s answer answer _ g refl (is_by Expand answer g.decided);
+        has = subst (λ bytes. WrotePart bytes (lent a).ink (lent b).ink) (sym (expand_bytes answer g.decided ∙ ap trace m.is)) (part_written m.rows m.more m.last a b m.heard);
+      }
+
+  pub expand_stops : (e : Stop) (s new : State) (a b : T) → Follows Hears HearsPart (digests [] s) (Err e) new a b → FromState Expand s (λ all. MayEnd (stopped e) all (lent a).ink (lent b).ink)
+  expand_stops (stop.Tex f) s new a b g = expand_ends (Tex f) s a b g.answer g.given g.meets
+  expand_stops (stop.Limit n) s new a b g = expand_ends (Limit n) s a b g.answer g.given g.meets
+  expand_stops stop.ReadFailed s new a b g = expand_part s a b g.answer g.given g.meets
+  expand_stops stop.TellFailed s new a b g = expand_part s a b g.answer g.given g.meets
+  expand_stops stop.NoMemory s new a b g = expand_part s a b g.answer g.given g.meets
+
+  -- whole lines
+  lines_all : (s : State) (answer : Answer (List Material)) (rows more : List Record) (a b : T) → Gives (digests [] s) answer → (added answer).records ≡ rows ++ more
+      → (lent b).ink ≡ inked (lent a).ink (trace rows) → FromState Expand s (λ all. WholeLines all (lent a).ink (lent b).ink)
+  lines_all s answer rows more a b g e ink =
+      record {
+        all = outcome_by Expand answer;
+        is = is_from Expand s answer answer _ g refl (is_by Expand answer g.decided);
+        has = (rows, more, expand_records answer g.decided ∙ e, ink);
+      }
+
+  lines_part : (s : State) (a b : T) (answer : Answer (List Material)) → Gives (digests [] s) answer → MeetsPart Hears HearsPart answer a b → (Rose (lent a).faults (lent b).faults → ⊥)
+      → FromState Expand s (λ all. WholeLines all (lent a).ink (lent b).ink)
+  lines_part s a b answer g m calm = lines_all s answer m.rows (option_to_list m.last ++ m.more) a b g (m.is ∙ append_assoc m.rows (option_to_list m.last) m.more) (part_whole m.rows m.last a b m.heard calm)
+
+  no_more : (records rows : List Record) → records ≡ rows → records ≡ rows ++ []
+  no_more records rows e = simp (e, append-nil)
+
+  pub expand_lines : (r : Result (List Material) Stop) (s new : State) (a b : T) → Follows Hears HearsPart (digests [] s) r new a b → (Rose (lent a).faults (lent b).faults → ⊥)
+      → FromState Expand s (λ all. WholeLines all (lent a).ink (lent b).ink)
+  expand_lines (Ok v) s new a b g calm =
+      lines_all s g.answer g.meets.gains.records [] a b g.given (no_more _ _ (ap (λ x. (added x).records) g.meets.is)) (Wrote-trace lent a b g.meets.gains.records g.meets.heard).ink
+  expand_lines (Err (stop.Tex f)) s new a b g calm =
+      lines_all s g.answer g.meets.gains.records [] a b g.given (no_more _ _ (ap (λ x. (added x).records) g.meets.is)) (Wrote-trace lent a b g.meets.gains.records g.meets.heard).ink
+  expand_lines (Err (stop.Limit n)) s new a b g calm =
+      lines_all s g.answer g.meets.gains.records [] a b g.given (no_more _ _ (ap (λ x. (added x).records) g.meets.is)) (Wrote-trace lent a b g.meets.gains.records g.meets.heard).ink
+  expand_lines (Err stop.ReadFailed) s new a b g calm = lines_part s a b g.answer g.given g.meets calm
+  expand_lines (Err stop.TellFailed) s new a b g calm = lines_part s a b g.answer g.given g.meets calm
+  expand_lines (Err stop.NoMemory) s new a b g calm = lines_part s a b g.answer g.given g.meets calm
+
+-- the cause of a stop is one of the run
+pub stop_cause : (e : Stop) (reads tells reads' tells' : ℕ) → Because {A = List Material} (Err e) (outside reads tells) (outside reads' tells') → HasRunCause (stopped e) (Rose reads reads') (Rose tells tells')
+stop_cause (stop.Tex f) reads tells reads' tells' h = tt
+stop_cause (stop.Limit n) reads tells reads' tells' h = tt
+stop_cause stop.ReadFailed reads tells reads' tells' h = h
+stop_cause stop.TellFailed reads tells reads' tells' h = h
+stop_cause stop.NoMemory reads tells reads' tells' h = tt
+
+pub cause_weaker : (s : Status) (fr fr' or : Type 0) → (fr → fr') → HasRunCause s fr or → HasRunCause s fr' or
+cause_weaker status.Done fr fr' or go h = tt
+cause_weaker (status.Usage k) fr fr' or go h = tt
+cause_weaker (status.Tex f) fr fr' or go h = tt
+cause_weaker (status.Limit n) fr fr' or go h = tt
+cause_weaker status.ReadFault fr fr' or go h = go h
+cause_weaker status.WriteFault fr fr' or go h = h
+cause_weaker status.NoMemory fr fr' or go h = tt
+
+-- where nothing failed, a run that may end so ends with the outcome
+pub ends_exactly : (s : Status) (all : Outcome) (old new : Ink) (files_rose out_rose : Type 0) → HasRunCause s files_rose out_rose → (files_rose → ⊥) → (out_rose → ⊥) → s ≢ status.NoMemory
+    → MayEnd s all old new → EndsAs s all old new
+ends_exactly status.Done all old new fr or h nf calm nm m = m
+ends_exactly (status.Usage k) all old new fr or h nf calm nm m = m
+ends_exactly (status.Tex f) all old new fr or h nf calm nm m = m
+ends_exactly (status.Limit n) all old new fr or h nf calm nm m = m
+ends_exactly status.ReadFault all old new fr or h nf calm nm m = absurd (nf h)
+ends_exactly status.WriteFault all old new fr or h nf calm nm m = absurd (calm h)
+ends_exactly status.NoMemory all old new fr or h nf calm nm m = absurd (nm refl)
+
+-- by what the words ask for
+pub usage_page : (r : Result Request ℕ) (which : ℕ) (s : Status) (all : Outcome) → r ≡ Err which → PageAsked r s all
+usage_page r which s all e = subst (λ r. PageAsked r s all) (sym e) tt
+
+pub usage_lines : (r : Result Request ℕ) (which : ℕ) (all : Outcome) (old new : Ink) → r ≡ Err which → LinesAsked r all old new
+usage_lines r which all old new e = subst (λ r. LinesAsked r all old new) (sym e) tt
+
+pub asked_page : (r : Result Request ℕ) (request : Request) (s : Status) (all : Outcome) → r ≡ Ok request → WritesPage request.command s all → PageAsked r s all
+asked_page r request s all e h = subst (λ r. PageAsked r s all) (sym e) h
+
+pub asked_lines : (r : Result Request ℕ) (request : Request) (all : Outcome) (old new : Ink) → r ≡ Ok request → LinesBy request.command all old new → LinesAsked r all old new
+asked_lines r request all old new e h = subst (λ r. LinesAsked r all old new) (sym e) h
+
+-- a run that doesn't start
+module _ (words : List (List ℕ)) (shelf : Shelf) (request : Request) (e : asked words ≡ Ok request) (rose : Type 0) where
+  pub start_meets : (s : Status) (ink : Ink) → Starts shelf request.file request.limit (Err s) rose → IsTrue shelf.tells → OfOutcome words shelf.contents (λ all. MayEnd s all ink ink)
+  start_meets status.Done ink h told = absurd h
+  start_meets (status.Usage k) ink h told = absurd h
+  start_meets (status.Tex f) ink h told = of_fault words shelf.contents request (status.Tex f) _ e (h told) (refused_ends (status.Tex f) ink)
+  start_meets (status.Limit n) ink h told = absurd h
+  start_meets status.ReadFault ink h told = of_any words shelf.contents _ (λ all. none_written all.bytes ink)
+  start_meets status.WriteFault ink h told = absurd h
+  start_meets status.NoMemory ink h told = of_any words shelf.contents _ (λ all. none_written all.bytes ink)
+
+  pub start_cause : (s : Status) (out_rose : Type 0) → Starts shelf request.file request.limit (Err s) rose → HasRunCause s rose out_rose
+  start_cause status.Done or h = tt
+  start_cause (status.Usage k) or h = tt
+  start_cause (status.Tex f) or h = tt
+  start_cause (status.Limit n) or h = tt
+  start_cause status.ReadFault or h = h
+  start_cause status.WriteFault or h = absurd h
+  start_cause status.NoMemory or h = tt
+
+  pub start_page : (command : Command) (s : Status) (all : Outcome) → Starts shelf request.file request.limit (Err s) rose → WritesPage command s all
+  start_page Convert status.Done all h = tt
+  start_page Convert (status.Usage k) all h = tt
+  start_page Convert (status.Tex f) all h = tt
+  start_page Convert (status.Limit n) all h = tt
+  start_page Convert status.ReadFault all h = tt
+  start_page Convert status.WriteFault all h = absurd h
+  start_page Convert status.NoMemory all h = tt
+  start_page Expand s all h = tt
+
+-- a run that has started
+pub started : (words : List (List ℕ)) (contents : List ℕ → Option (List ℕ)) (request : Request) (engine : Held) (Has : Outcome → Type 0) → asked words ≡ Ok request
+    → IsFirst request.file request.limit (text_of request.file (contents request.file)) engine → FromState request.command (state_of engine) Has → OfOutcome words contents Has
+started words contents request engine Has e first h = of_state words contents request first.0 (state_of engine) Has e first.1 first.2 h

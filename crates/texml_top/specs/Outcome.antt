@@ -1,39 +1,101 @@
 -- What a run answers and writes.
-use Rattle.std.specs.Prelude.{ℕ, List, [], if◌then◌else◌, Result, Ok, Err, None, Some}
+use Rattle.std.specs.Prelude.{◌≡◌, ℕ, List, [], ◌∷◌, if◌then◌else◌, Result, Ok, Err, None, Some}
 use Rattle.std.specs.declared.option.Option.{Option}
 use Rattle.std.specs.Str.{chars, is_utf8}
-use Rattle.texml_top.specs.Words.{asked}
+use Rattle.texml_token.specs.declared.fault_code.TheConstants.{MISSING_FILE, NOT_UTF8}
 use Rattle.texml_text.specs.Lines.{lines, without_mark}
-use Rattle.texml_top.specs.Faults.{fault}
-use Rattle.texml_top.specs.Reading.{of_lines}
+use Rattle.texml_scope.specs.Builtins.{first_world}
+use Rattle.texml_watch.specs.declared.record.Record.{Record}
+use Rattle.texml_watch.specs.Trace.{trace}
+use Rattle.texml_expand.specs.Rest.{Place, Text, fresh}
+use Rattle.texml_expand.specs.State.{State, End, Tex, Limit, Answer, Done, Ended, Unfinished, fault_at}
+use Rattle.texml_expand.specs.Contract.{Gives}
+use Rattle.texml_top.specs.Request.{Request, asked}
+use Rattle.texml_top.specs.declared.request.Command.{Command}
+use Rattle.texml_top.specs.declared.request.Command.TheVariants.{Convert, Expand}
+use Rattle.texml_top.specs.Digest.{digests}
 use Rattle.texml_top.specs.Page.{page}
 use Rattle.texml_top.specs.declared.material.Material.{Material}
 use Rattle.texml_top.specs.declared.status.Status.{Status}
-use Rattle.texml_top.specs.declared.status.Status.TheVariants.{Done, Usage}
+use Rattle.texml_top.specs.declared.status.Status.TheVariants as status
 
--- the page of what was read, or the fault
-abbrev pub typeset : Result (List Material) Status → Result (List ℕ) Status
-typeset (Ok material) = Ok (page material)
-typeset (Err status) = Err status
-
--- the page of a file's bytes, or the fault: no file is fault 19, and bytes that are no UTF-8 are fault 20
-abbrev pub converted : List ℕ → Option (List ℕ) → Result (List ℕ) Status
-converted file None = Err (fault 19 file file)
-converted file (Some bytes) =
-    if is_utf8 bytes then typeset (of_lines file (lines (without_mark (chars bytes)))) else Err (fault 20 file [])
-
+-- what a run answers, the bytes that it writes, and the records of its completed expansions
 pub record Outcome : Type 0 where
   pub status : Status
   pub bytes : List ℕ
+  pub records : List Record
 
-abbrev pub written : Result (List ℕ) Status → Outcome
-written (Ok html) = record { status = Done; bytes = html }
-written (Err status) = record { status = status; bytes = [] }
+-- a status alone: nothing is written, and nothing was expanded
+abbrev pub refused : Status → Outcome
+refused s = record { status = s; bytes = []; records = [] }
 
-abbrev pub asked_outcome : Result (List ℕ) ℕ → (List ℕ → Option (List ℕ)) → Outcome
-asked_outcome (Ok file) contents = written (converted file (contents file))
-asked_outcome (Err which) contents = record { status = Usage which; bytes = [] }
+-- the place before the first line of a file
+abbrev pub before : List ℕ → Place
+before file = record { file = file; line = 0 }
 
--- the status and the bytes of a run, by its words and what each name holds
-abbrev pub outcome : List (List ℕ) → (List ℕ → Option (List ℕ)) → Outcome
-outcome words contents = asked_outcome (asked words) contents
+-- the characters of the main file; no file is a fault about its name, and bytes that are no UTF-8 are a fault
+abbrev pub text_of : List ℕ → Option (List ℕ) → Result (List ℕ) Status
+text_of file None = Err (status.Tex (fault_at MISSING_FILE file (before file)))
+text_of file (Some bytes) = if is_utf8 bytes then Ok (chars bytes) else Err (status.Tex (fault_at NOT_UTF8 [] (before file)))
+
+-- the state that a run starts with: the builtins have their names, and the lines of the text are still to be read
+abbrev pub first_state : List ℕ → ℕ → List ℕ → State
+first_state file limit text = record {
+  world = first_world;
+  rest = Text (fresh file (lines (without_mark text))) ∷ [];
+  begun = 0;
+  limit = limit;
+  nesting = 0;
+  place = before file;
+}
+
+abbrev pub status_of : End → Status
+status_of (Tex f) = status.Tex f
+status_of (Limit n) = status.Limit n
+
+-- by what digestion answers: convert writes the page of it, and nothing at an early end; expand writes the trace in any case
+abbrev pub IsOutcomeBy : Command → Answer (List Material) → Outcome → Type 0
+IsOutcomeBy Convert (Done material s gains) all = all ≡ record { status = status.Done; bytes = page material; records = gains.records }
+IsOutcomeBy Convert (Ended e gains) all = all ≡ record { status = status_of e; bytes = []; records = gains.records }
+IsOutcomeBy Convert (Unfinished gains) all = ⊥
+IsOutcomeBy Expand (Done material s gains) all = all ≡ record { status = status.Done; bytes = trace gains.records; records = gains.records }
+IsOutcomeBy Expand (Ended e gains) all = all ≡ record { status = status_of e; bytes = trace gains.records; records = gains.records }
+IsOutcomeBy Expand (Unfinished gains) all = ⊥
+
+-- the outcome of a command from a state on
+pub record IsOutcomeFrom (command : Command) (s : State) (all : Outcome) : Type 0 where
+  pub answer : Answer (List Material)
+  pub given : Gives (digests [] s) answer
+  pub is : IsOutcomeBy command answer all
+
+abbrev pub IsOutcomeOf : Request → Result (List ℕ) Status → Outcome → Type 0
+IsOutcomeOf request (Ok text) all = IsOutcomeFrom request.command (first_state request.file request.limit text) all
+IsOutcomeOf request (Err s) all = all ≡ refused s
+
+abbrev pub IsOutcomeAsked : Result Request ℕ → (List ℕ → Option (List ℕ)) → Outcome → Type 0
+IsOutcomeAsked (Ok request) contents all = IsOutcomeOf request (text_of request.file (contents request.file)) all
+IsOutcomeAsked (Err which) contents all = all ≡ refused (status.Usage which)
+
+-- the outcome of a run, by its words and what each name holds
+abbrev pub IsOutcome : List (List ℕ) → (List ℕ → Option (List ℕ)) → Outcome → Type 0
+IsOutcome words contents all = IsOutcomeAsked (asked words) contents all
+
+-- there is an outcome, and no other
+pub record OneOutcome (words : List (List ℕ)) (contents : List ℕ → Option (List ℕ)) : Type 0 where
+  pub all : Outcome
+  pub is : IsOutcome words contents all
+  pub one : (other : Outcome) → IsOutcome words contents other → other ≡ all
+
+-- the outcome has this property
+pub record WithOutcome (Is Has : Outcome → Type 0) : Type 0 where
+  pub all : Outcome
+  pub is : Is all
+  pub has : Has all
+
+-- the outcome of these words and files has this property
+abbrev pub OfOutcome : List (List ℕ) → (List ℕ → Option (List ℕ)) → (Outcome → Type 0) → Type 0
+OfOutcome words contents Has = WithOutcome (IsOutcome words contents) Has
+
+-- the outcome of a command from a state on has this property
+abbrev pub FromState : Command → State → (Outcome → Type 0) → Type 0
+FromState command s Has = WithOutcome (IsOutcomeFrom command s) Has

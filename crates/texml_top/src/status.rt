@@ -1,7 +1,8 @@
 //! What a run ends with.
 ghost use Rattle.std.specs.Prelude.{◌≡◌};
 
-use std::alloc::{AllocError, AllocFailed, Global};
+use std::alloc::{AllocError, Global};
+use texml_expand::Stop;
 use texml_token::{Bytes, Fault};
 
 /// What a run ends with.
@@ -13,6 +14,8 @@ pub enum Status {
     Usage(u8),
     /// The first fault of the text.
     Tex(Fault),
+    /// So many expansions were begun, the limit, and another would begin.
+    Limit(u64),
     /// The files failed.
     ReadFault,
     /// The sink failed.
@@ -31,22 +34,29 @@ impl From<AllocError> for Status {
     }
 }
 
-impl<T: Drop> From<AllocFailed<T>> for Status {
-    ghost use Rattle.texml_top.specs.declared.status.Status.TheVariants.{NoMemory};
+impl From<Stop> for Status {
+    ghost use Rattle.texml_top.specs.Run.{stopped};
 
-    ghost from_gives = { λ _ s. s ≡ NoMemory };
+    ghost from_gives = { λ stop s. s ≡ stopped stop };
 
-    fn from(_: AllocFailed<T>) -> Self {
-        Status::NoMemory
+    fn from(stop: Stop) -> Self {
+        match stop {
+            Stop::Tex(fault) => Status::Tex(fault),
+            Stop::Limit(limit) => Status::Limit(limit),
+            Stop::ReadFailed => Status::ReadFault,
+            Stop::TellFailed => Status::WriteFault,
+            Stop::NoMemory => Status::NoMemory,
+        }
     }
 }
 
 impl Status {
-    ghost use Rattle.texml_top.specs.Faults.{IsFault};
+    ghost use Rattle.texml_top.specs.Outcome.{before};
+    ghost use Rattle.texml_top.specs.Start.{IsFault};
 
-    // A fault of a file, or want of memory. Lines are not counted yet, so its line is 0.
+    // A fault at the place before the first line of a file, or want of memory.
     pub(crate) fn fault(alloc: Global, code: u8, file: &str, about: &[u8]) -> Self
-        ensures { IsFault code file.now about.now result }
+        ensures { IsFault code about.now (before file.now) result }
     {
         match (
             Bytes::from_slice(alloc, file.as_bytes()),

@@ -1,6 +1,6 @@
 ghost use Rattle.std.specs.Prelude.{◌≡◌, ◌≢◌, ◌≤◌, [], map, string_bytes, IfOk};
 ghost use Rattle.texml_base.specs.Memory.{memory_shelf, calm_shelf};
-ghost use Rattle.texml_top.specs.Outcome.{outcome};
+ghost use Rattle.texml_top.specs.Outcome.{OfOutcome};
 
 use super::*;
 use std::alloc::{AllocError, Global};
@@ -34,18 +34,36 @@ fn main_file(
     Ok(files)
 }
 
+// Runs on a file main.tex with this text, with so much room for what is written.
+fn run_on(
+    alloc: Global,
+    words: &[&str],
+    text: &[u8],
+    room: usize,
+) -> Result<(Status, MemorySink), AllocError> {
+    let mut files = main_file(alloc, text, 3, 0)?;
+    let mut out = MemorySink::new(alloc, room, 0)?;
+    let mut notes = MemorySink::new(alloc, 10, 0)?;
+    let words = words_of(alloc, words)?;
+    let status = run(alloc, &words, &mut files, &mut out, &mut notes);
+    Ok((status, out))
+}
+
 #[test]
 fn texts_are_paragraphs_or_their_first_fault(rt: HostRuntime) -> Result<(), Fail> {
     let alloc = rt.alloc();
     // A text, the fault's number or 0, and the body of the page or what the fault is about.
-    let rows: [(&[u8], u8, &str); 16] = [
+    let rows: [(&[u8], u8, &str); 24] = [
         (b"", 0, ""),
         (b"Hello\nworld\n\nTwo\n", 0, "<p>Hello world</p><p>Two</p>"),
         (b"a<b % c\n", 0, "<p>a&lt;b</p>"),
         (b"  x   y \r\n\n\n z", 0, "<p>x y</p><p>z</p>"),
         (b"\xef\xbb\xbf1\\par2\\par 3", 0, "<p>1</p><p>2</p><p>3</p>"),
         (b"^^41^^5e^^41", 0, "<p>A\u{1e}41</p>"),
-        (b"a{b\n", 18, ""),
+        (b"a{b\n", 0, "<p>ab</p>"),
+        (b"{{a} b}c", 0, "<p>a bc</p>"),
+        (b"a}", 17, ""),
+        (b"{a}}", 17, ""),
         (b"a<b % c\n&\n", 18, ""),
         (b"x^y", 18, ""),
         (b"\xff\n", 20, ""),
@@ -54,14 +72,16 @@ fn texts_are_paragraphs_or_their_first_fault(rt: HostRuntime) -> Result<(), Fail
         (b"a\x7f\n", 15, ""),
         (b"\\foo&", 1, "\\foo"),
         (b"\\", 1, "\\\r"),
-        (b"\\% {", 1, "\\%"),
+        (b"\\def\\a{x", 4, ""),
+        (b"\\def a{x}", 18, ""),
+        (b"\\def\\a x{}", 14, ""),
+        (b"\\def\\a}", 22, ""),
+        (b"\\def\\a{#}", 14, ""),
+        (b"{\\def\\a{x}\\a}\\a", 1, "\\a"),
     ];
     for (text, code, found) in rows {
-        let mut files = main_file(alloc, text, 3, 0)?;
-        let mut out = MemorySink::new(alloc, 1000, 0)?;
-        let mut notes = MemorySink::new(alloc, 10, 0)?;
-        let words = words_of(alloc, &["convert", "main.tex"])?;
-        match run(alloc, &words, &mut files, &mut out, &mut notes) {
+        let (status, out) = run_on(alloc, &["convert", "main.tex"], text, 1000)?;
+        match status {
             Status::Done => {
                 assert_eq!(rt; code, 0);
                 let page = format!(in alloc; "{HEAD}{found}{TAIL}")?;
@@ -75,6 +95,105 @@ fn texts_are_paragraphs_or_their_first_fault(rt: HostRuntime) -> Result<(), Fail
             }
             _ => assert!(rt; false),
         }
+    }
+    Ok(())
+}
+
+#[test]
+fn expansions_are_converted_and_shown(rt: HostRuntime) -> Result<(), Fail> {
+    let alloc = rt.alloc();
+    // A text, the body of its page, and its trace.
+    let rows: [(&[u8], &str, &str); 6] = [
+        (
+            b"\\def\\a{x}{\\def\\a{y}\\a}\\a",
+            "<p>yx</p>",
+            "\\a -> y\n\\a -> x\n",
+        ),
+        (b"\\def\\a{}x\\a y", "<p>xy</p>", "\\a -> \n"),
+        (b"\\def\\par{x}a\n\n", "<p>a x</p>", "\\par -> x\n"),
+        (b"\\def~{z}a~b", "<p>azb</p>", "~ -> z\n"),
+        (
+            b"\\def\\a{\\b{c}}\\def\\b{d}\\a",
+            "<p>dc</p>",
+            "\\a -> \\b {c}\n\\b -> d\n",
+        ),
+        (b"a\n\nb", "<p>a</p><p>b</p>", ""),
+    ];
+    for (text, body, trace) in rows {
+        let (status, out) = run_on(alloc, &["convert", "main.tex"], text, 1000)?;
+        let page = format!(in alloc; "{HEAD}{body}{TAIL}")?;
+        assert!(rt; matches!(status, Status::Done));
+        assert_eq!(rt; out.bytes(), page.as_bytes());
+        let (status, out) = run_on(alloc, &["expand", "main.tex"], text, 1000)?;
+        assert!(rt; matches!(status, Status::Done));
+        assert_eq!(rt; out.bytes(), trace.as_bytes());
+    }
+    Ok(())
+}
+
+#[test]
+fn a_fault_ends_a_trace(rt: HostRuntime) -> Result<(), Fail> {
+    let alloc = rt.alloc();
+    let (status, out) = run_on(alloc, &["expand", "main.tex"], b"\\def\\a{b}\\a}\\a", 99)?;
+    match status {
+        Status::Tex(fault) => assert_eq!(rt; fault.code, 17),
+        _ => assert!(rt; false),
+    }
+    assert_eq!(rt; out.bytes(), b"\\a -> b\n".as_slice());
+    Ok(())
+}
+
+#[test]
+fn expansions_begin_up_to_the_limit(rt: HostRuntime) -> Result<(), Fail> {
+    let alloc = rt.alloc();
+    let mut turns = String::new(alloc);
+    for _ in 0..100 {
+        turns.push_str("\\x -> \\x \n")?;
+    }
+    let page = format!(in alloc; "{HEAD}<p>bb</p>{TAIL}")?;
+    // A command, a limit, a text, whether the limit ends it, and what is written.
+    let rows: [(&str, &str, u64, &[u8], bool, &str); 6] = [
+        ("convert", "2", 2, b"\\def\\a{b}\\a\\a", false, &page),
+        ("convert", "1", 1, b"\\def\\a{b}\\a\\a", true, ""),
+        (
+            "expand",
+            "2",
+            2,
+            b"\\def\\a{b}\\a\\a",
+            false,
+            "\\a -> b\n\\a -> b\n",
+        ),
+        ("expand", "1", 1, b"\\def\\a{b}\\a\\a", true, "\\a -> b\n"),
+        ("convert", "100", 100, b"\\def\\x{\\x}\\x", true, ""),
+        ("expand", "100", 100, b"\\def\\x{\\x}\\x", true, &turns),
+    ];
+    for (command, word, limit, text, ends, written) in rows {
+        let (status, out) = run_on(alloc, &[command, "main.tex", "--limit", word], text, 2000)?;
+        match status {
+            Status::Done => assert!(rt; !ends),
+            Status::Limit(begun) => {
+                assert!(rt; ends);
+                assert_eq!(rt; begun, limit);
+            }
+            _ => assert!(rt; false),
+        }
+        assert_eq!(rt; out.bytes(), written.as_bytes());
+    }
+    Ok(())
+}
+
+#[test]
+fn a_trace_is_cut_where_the_sink_fails(rt: HostRuntime) -> Result<(), Fail> {
+    let alloc = rt.alloc();
+    let trace = b"\\a -> b\n\\a -> b\n".as_slice();
+    for room in 0..trace.len() + 1 {
+        let (status, out) = run_on(alloc, &["expand", "main.tex"], b"\\def\\a{b}\\a\\a", room)?;
+        match status {
+            Status::WriteFault => assert!(rt; room < trace.len()),
+            Status::Done => assert_eq!(rt; room, trace.len()),
+            _ => assert!(rt; false),
+        }
+        assert_eq!(rt; out.bytes(), &trace[..room]);
     }
     Ok(())
 }
@@ -181,7 +300,7 @@ fn a_sink_takes_what_it_has_room_for(rt: HostRuntime) -> Result<(), Fail> {
 // Over files and sinks that never fail, the status is the defined one or want of memory.
 fn calm_status(alloc: Global, words: &[String], files: &mut CalmFiles) -> Status
     requires { (calm_shelf files.old).ids ≡ [] }
-    ensures { result ≢ Status.NoMemory → result ≡ (outcome (map string_bytes words.now) (calm_shelf files.old).contents).status }
+    ensures { result ≢ Status.NoMemory → OfOutcome (map string_bytes words.now) (calm_shelf files.old).contents (λ all. result ≡ all.status) }
 {
     let mut out = CalmSink::new();
     let mut notes = CalmSink::new();

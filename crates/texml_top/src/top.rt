@@ -1,26 +1,29 @@
 //! The run.
-ghost use Rattle.std.specs.Prelude.{◌≡◌, ◌≢◌, ◌<◌, [], length, map, string_bytes, IsTrue, MatchResult, Ok, Some};
-ghost use Rattle.texml_base.specs.Outside.{inked};
+ghost use Rattle.std.specs.Prelude.{◌≡◌, ◌≢◌, [], map, string_bytes, IsTrue, None};
 ghost use Rattle.texml_base.specs.Rising.{Rose};
-ghost use Rattle.texml_top.specs.Words.{asked};
-ghost use Rattle.texml_top.specs.Outcome.{outcome, converted};
-ghost use Rattle.texml_top.specs.Faults.{IsRefusal};
-ghost use Rattle.texml_top.specs.Run.{Converts, MayEnd, RefusesWords};
+ghost use Rattle.texml_expand.specs.Held.{Sound, state_of};
+ghost use Rattle.texml_top.specs.Request.{asked};
+ghost use Rattle.texml_top.specs.Outcome.{OfOutcome, FromState};
+ghost use Rattle.texml_top.specs.Run.{EndsAs, MayEnd, HasRunCause, RefusesWords, WritesLate, LateAsked, WritesPage, PageAsked, WholeLines, LinesBy, LinesAsked};
+ghost use Rattle.texml_top.specs.declared.request.Command.TheVariants.{Convert, Expand};
 
+use crate::digest::digest;
 use crate::page::page_of;
-use crate::reading::read_text;
-use crate::source::read_whole;
+use crate::request::{Command, read_request};
+use crate::start::start_engine;
 use crate::status::Status;
-use crate::words::read_words;
 use std::alloc::Global;
-use texml_base::{Files, Sink, Trouble};
+use texml_base::{Files, Sink};
+use texml_expand::Engine;
+use texml_watch::{Lines, Silent};
 
-/// Does what the words of a command line ask for: `convert FILE` writes the HTML of a file to `out`.
+/// Does what the words of a command line ask for: `convert FILE` writes the HTML of a file to `out`, and `expand FILE` a
+/// line for each completed expansion. With `--limit N` behind it at most N expansions begin.
 ///
 /// It answers `Usage` where the words are no command line, and opens nothing then; `Tex` with the first fault of the
-/// text; `ReadFault` and `WriteFault` only where the files or the sink failed in this call; `NoMemory` where memory was
-/// refused. The HTML is made whole before the first write, so that nothing is written but at `Done`, and at `WriteFault`
-/// a part of it. Nothing is written to `notes` yet.
+/// text; `Limit` where one expansion too many would begin; `ReadFault` and `WriteFault` only where the files or the sink
+/// failed in this call; `NoMemory` where memory was refused. The HTML is made whole before the first write. A line is
+/// written when its expansion is completed. Nothing is written to `notes` yet.
 pub fn run<F: Files, S: Sink, N: Sink>(
     alloc: Global,
     words: &[String],
@@ -32,12 +35,22 @@ pub fn run<F: Files, S: Sink, N: Sink>(
 
     // Where the files tell what they hold and nothing fails, it is what the definitions say, or memory is short.
     ensures outcome { IsTrue (F.shelf files.old).tells → (Rose (F.faults files.old) (F.faults files.new) → ⊥) → (Rose (S.faults out.old) (S.faults out.new) → ⊥)
-        → result ≢ Status.NoMemory → let all = outcome (map string_bytes words.now) (F.shelf files.old).contents in
-        (result ≡ all.status) × (S.ink out.new ≡ inked (S.ink out.old) all.bytes) }
+        → result ≢ Status.NoMemory → OfOutcome (map string_bytes words.now) (F.shelf files.old).contents (λ all. EndsAs result all (S.ink out.old) (S.ink out.new)) }
 
-    // Each answer has its cause, whatever fails.
-    ensures cause { MayEnd result (IsTrue (F.shelf files.old).tells) (Rose (F.faults files.old) (F.faults files.new)) (Rose (S.faults out.old) (S.faults out.new))
-        (outcome (map string_bytes words.now) (F.shelf files.old).contents) (S.ink out.old) (S.ink out.new) }
+    // What each status says of the outcome and of what was written, whatever fails.
+    ensures meets { IsTrue (F.shelf files.old).tells
+        → OfOutcome (map string_bytes words.now) (F.shelf files.old).contents (λ all. MayEnd result all (S.ink out.old) (S.ink out.new)) }
+
+    // A failure has its cause.
+    ensures cause { HasRunCause result (Rose (F.faults files.old) (F.faults files.new)) (Rose (S.faults out.old) (S.faults out.new)) }
+
+    // Nothing of a page is written before it is whole.
+    ensures late { LateAsked (asked (map string_bytes words.now)) result (S.ink out.old) (S.ink out.new) }
+    ensures page { IsTrue (F.shelf files.old).tells → OfOutcome (map string_bytes words.now) (F.shelf files.old).contents (PageAsked (asked (map string_bytes words.now)) result) }
+
+    // Whatever ends it, whole lines of the trace were written, unless the sink failed.
+    ensures lines { IsTrue (F.shelf files.old).tells → (Rose (S.faults out.old) (S.faults out.new) → ⊥) → OfOutcome (map string_bytes words.now) (F.shelf files.old).contents
+        (λ all. LinesAsked (asked (map string_bytes words.now)) all (S.ink out.old) (S.ink out.new)) }
 
     // Words that are no command line are refused before a file is opened.
     ensures words { RefusesWords (asked (map string_bytes words.now)) result
@@ -49,42 +62,105 @@ pub fn run<F: Files, S: Sink, N: Sink>(
     // No file is left open.
     ensures closed { (F.shelf files.new).ids ≡ [] }
 {
-    let file = match read_words(words) {
-        Ok(file) => file,
+    let request = match read_request(words) {
+        Ok(request) => request,
         Err(which) => return Status::Usage(which),
     };
-    let html = match convert(alloc, files, file) {
-        Ok(html) => html,
+    let mut engine = match start_engine(alloc, files, request.file, request.limit) {
+        Ok(engine) => engine,
         Err(status) => return status,
     };
-    match out.write(html.as_bytes()) {
+    perform(alloc, request.command, &mut engine, files, out)
+}
+
+// Performs a command on what an engine is to read.
+fn perform<F: Files, S: Sink>(
+    alloc: Global,
+    command: Command,
+    engine: &mut Engine,
+    files: &mut F,
+    out: &mut S,
+) -> Status
+    requires running { engine.old.stop ≡ None }
+    requires sound { Sound engine.old }
+    ensures meets { FromState command (state_of engine.old) (λ all. MayEnd result all (S.ink out.old) (S.ink out.new)) }
+    ensures cause { HasRunCause result (Rose (F.faults files.old) (F.faults files.new)) (Rose (S.faults out.old) (S.faults out.new)) }
+    ensures late { WritesLate command result (S.ink out.old) (S.ink out.new) }
+    ensures page { FromState command (state_of engine.old) (WritesPage command result) }
+    ensures lines { (Rose (S.faults out.old) (S.faults out.new) → ⊥) → FromState command (state_of engine.old) (λ all. LinesBy command all (S.ink out.old) (S.ink out.new)) }
+    ensures files { files.new ≡ files.old }
+{
+    match command {
+        Command::Convert => convert(alloc, engine, files, out),
+        Command::Expand => expand(alloc, engine, files, out),
+    }
+}
+
+// Writes the page of what an engine is to read.
+fn convert<F: Files, S: Sink>(
+    alloc: Global,
+    engine: &mut Engine,
+    files: &mut F,
+    out: &mut S,
+) -> Status
+    requires running { engine.old.stop ≡ None }
+    requires sound { Sound engine.old }
+    ensures meets { FromState Convert (state_of engine.old) (λ all. MayEnd result all (S.ink out.old) (S.ink out.new)) }
+    ensures cause { HasRunCause result (Rose (F.faults files.old) (F.faults files.new)) (Rose (S.faults out.old) (S.faults out.new)) }
+    ensures late { WritesLate Convert result (S.ink out.old) (S.ink out.new) }
+    ensures page { FromState Convert (state_of engine.old) (WritesPage Convert result) }
+    ensures files { files.new ≡ files.old }
+{
+    let material = match digest(alloc, engine, files, &mut Silent) {
+        Ok(material) => material,
+        Err(stop) => return Status::from(stop),
+    };
+    let page = match page_of(alloc, &material) {
+        Ok(page) => page,
+        Err(_) => return Status::NoMemory,
+    };
+    match out.write(page.as_bytes()) {
         Ok(()) => Status::Done,
         Err(_) => Status::WriteFault,
     }
 }
 
-// The HTML of a file.
-fn convert<F: Files>(alloc: Global, files: &mut F, name: &str) -> Result<String, Status>
-    requires { length (F.shelf files.old).ids < 1000 }
-    ensures html { Converts (F.shelf files.old) name.now result (Rose (F.faults files.old) (F.faults files.new)) }
-    ensures closed { (F.shelf files.new).ids ≡ (F.shelf files.old).ids }
+// Writes a line for each expansion of what an engine is to read, when it is completed.
+fn expand<F: Files, S: Sink>(
+    alloc: Global,
+    engine: &mut Engine,
+    files: &mut F,
+    out: &mut S,
+) -> Status
+    requires running { engine.old.stop ≡ None }
+    requires sound { Sound engine.old }
+    ensures meets { FromState Expand (state_of engine.old) (λ all. MayEnd result all (S.ink out.old) (S.ink out.new)) }
+    ensures cause { HasRunCause result (Rose (F.faults files.old) (F.faults files.new)) (Rose (S.faults out.old) (S.faults out.new)) }
+    ensures lines { (Rose (S.faults out.old) (S.faults out.new) → ⊥) → FromState Expand (state_of engine.old) (λ all. WholeLines all (S.ink out.old) (S.ink out.new)) }
+    ensures files { files.new ≡ files.old }
 {
-    let bytes = match read_whole(alloc, files, name) {
-        Ok(Some(bytes)) => bytes,
-        Ok(None) => return Err(Status::fault(alloc, 19, name, name.as_bytes())),
-        Err(Trouble::Failed) => return Err(Status::ReadFault),
-        Err(Trouble::NoMemory) => return Err(Status::NoMemory),
-    };
-    typeset(alloc, name, &bytes)
+    let mut lines = Lines::new(out);
+    trace(alloc, engine, files, &mut lines)
 }
 
-// The HTML of the bytes of a file.
-fn typeset(alloc: Global, name: &str, bytes: &[u8]) -> Result<String, Status>
-    ensures { MatchResult result (λ html. converted name.now (Some bytes.now) ≡ Ok (string_bytes html)) (IsRefusal (converted name.now (Some bytes.now))) }
+// Tells of each expansion of what an engine is to read.
+fn trace<F: Files, S: Sink>(
+    alloc: Global,
+    engine: &mut Engine,
+    files: &mut F,
+    lines: &mut Lines<'_, S>,
+) -> Status
+    requires running { engine.old.stop ≡ None }
+    requires sound { Sound engine.old }
+    ensures loan { lines.new.sink.ghost_name ≡ lines.old.sink.ghost_name }
+    ensures meets { FromState Expand (state_of engine.old) (λ all. MayEnd result all (S.ink lines.old.sink.now) (S.ink lines.new.sink.now)) }
+    ensures cause { HasRunCause result (Rose (F.faults files.old) (F.faults files.new)) (Rose (S.faults lines.old.sink.now) (S.faults lines.new.sink.now)) }
+    ensures whole { (Rose (S.faults lines.old.sink.now) (S.faults lines.new.sink.now) → ⊥)
+        → FromState Expand (state_of engine.old) (λ all. WholeLines all (S.ink lines.old.sink.now) (S.ink lines.new.sink.now)) }
+    ensures files { files.new ≡ files.old }
 {
-    let Ok(text) = str::from_utf8(bytes) else {
-        return Err(Status::fault(alloc, 20, name, b""));
-    };
-    let material = read_text(alloc, name, text)?;
-    Ok(page_of(alloc, &material)?)
+    match digest(alloc, engine, files, lines) {
+        Ok(_) => Status::Done,
+        Err(stop) => Status::from(stop),
+    }
 }

@@ -1,0 +1,115 @@
+-- A run has one outcome.
+use Rattle.std.proofs.Common.{◌≡◌, ℕ, List, [], Result, Ok, Err, refl, sym, ap, ◌∙◌, subst}
+use Rattle.std.specs.declared.option.Option.{Option}
+use Rattle.texml_watch.specs.Trace.{trace}
+use Rattle.texml_expand.specs.State.{State, Answer, Done, Ended, Unfinished, IsDecided, added}
+use Rattle.texml_expand.specs.Contract.{Gives}
+use Rattle.texml_top.specs.Request.{Request, asked}
+use Rattle.texml_top.specs.declared.request.Command.{Command}
+use Rattle.texml_top.specs.declared.request.Command.TheVariants.{Convert, Expand}
+use Rattle.texml_top.specs.Digest.{digests}
+use Rattle.texml_top.specs.Page.{page}
+use Rattle.texml_top.specs.Outcome.{Outcome, refused, text_of, first_state, status_of, IsOutcomeBy, IsOutcomeFrom, IsOutcomeOf, IsOutcomeAsked, OneOutcome, WithOutcome, OfOutcome, FromState}
+use Rattle.texml_top.specs.declared.material.Material.{Material}
+use Rattle.texml_top.specs.declared.status.Status.{Status}
+use Rattle.texml_top.specs.declared.status.Status.TheVariants as status
+use Rattle.texml_top.proofs.Digesting.{digest, gives_digest, digest_decided, digest_given}
+
+-- the outcome that an answer of digestion makes
+pub outcome_by : Command → Answer (List Material) → Outcome
+outcome_by Convert (Done material s gains) = record { status = status.Done; bytes = page material; records = gains.records }
+outcome_by Convert (Ended e gains) = record { status = status_of e; bytes = []; records = gains.records }
+outcome_by Convert (Unfinished gains) = refused status.NoMemory
+outcome_by Expand (Done material s gains) = record { status = status.Done; bytes = trace gains.records; records = gains.records }
+outcome_by Expand (Ended e gains) = record { status = status_of e; bytes = trace gains.records; records = gains.records }
+outcome_by Expand (Unfinished gains) = refused status.NoMemory
+
+pub is_by : (command : Command) (a : Answer (List Material)) → IsDecided a → IsOutcomeBy command a (outcome_by command a)
+unfolding outcome_by
+is_by Convert (Done material s gains) d = refl
+is_by Convert (Ended e gains) d = refl
+is_by Convert (Unfinished gains) d = d
+is_by Expand (Done material s gains) d = refl
+is_by Expand (Ended e gains) d = refl
+is_by Expand (Unfinished gains) d = d
+
+one_by : (command : Command) (a : Answer (List Material)) (all : Outcome) → IsOutcomeBy command a all → all ≡ outcome_by command a
+unfolding outcome_by
+one_by Convert (Done material s gains) all e = e
+one_by Convert (Ended end gains) all e = e
+one_by Convert (Unfinished gains) all e = absurd e
+one_by Expand (Done material s gains) all e = e
+one_by Expand (Ended end gains) all e = e
+one_by Expand (Unfinished gains) all e = absurd e
+
+-- expand writes the trace of all records
+pub expand_bytes : (a : Answer (List Material)) → IsDecided a → (outcome_by Expand a).bytes ≡ trace (added a).records
+unfolding outcome_by
+expand_bytes (Done material s gains) d = refl
+expand_bytes (Ended e gains) d = refl
+expand_bytes (Unfinished gains) d = absurd d
+
+pub expand_records : (a : Answer (List Material)) → IsDecided a → (outcome_by Expand a).records ≡ (added a).records
+unfolding outcome_by
+expand_records (Done material s gains) d = refl
+expand_records (Ended e gains) d = refl
+expand_records (Unfinished gains) d = absurd d
+
+-- an outcome by an answer that some depth gives
+pub is_from : (command : Command) (s : State) (a x : Answer (List Material)) (all : Outcome) → Gives (digests [] s) a → a ≡ x → IsOutcomeBy command x all → IsOutcomeFrom command s all
+is_from command s a x all g e h = record { answer = a; given = g; is = subst (λ y. IsOutcomeBy command y all) (sym e) h }
+
+pub outcome_from : Command → State → Outcome
+outcome_from command s = outcome_by command (digest [] s)
+
+pub is_outcome_from : (command : Command) (s : State) → IsOutcomeFrom command s (outcome_from command s)
+unfolding outcome_from
+is_outcome_from command s = is_from command s (digest [] s) (digest [] s) _ (gives_digest [] s) refl (is_by command (digest [] s) (digest_decided [] s))
+
+one_from : (command : Command) (s : State) (all : Outcome) → IsOutcomeFrom command s all → all ≡ outcome_from command s
+unfolding outcome_from
+one_from command s all h = one_by command h.answer all h.is ∙ ap (outcome_by command) (sym (digest_given [] s h.answer h.given))
+
+one_of : (request : Request) (found : Result (List ℕ) Status) → (all : Outcome) × IsOutcomeOf request found all × ((other : Outcome) → IsOutcomeOf request found other → other ≡ all)
+one_of request (Ok text) = let s = first_state request.file request.limit text in (outcome_from request.command s, is_outcome_from request.command s, one_from request.command s)
+one_of request (Err s) = (refused s, refl, λ other e. e)
+
+one_asked : (r : Result Request ℕ) (contents : List ℕ → Option (List ℕ)) → (all : Outcome) × IsOutcomeAsked r contents all × ((other : Outcome) → IsOutcomeAsked r contents other → other ≡ all)
+one_asked (Ok request) contents = one_of request (text_of request.file (contents request.file))
+one_asked (Err which) contents = (refused (status.Usage which), refl, λ other e. e)
+
+pub one_outcome : (words : List (List ℕ)) (contents : List ℕ → Option (List ℕ)) → OneOutcome words contents
+one_outcome words contents = let one = one_asked (asked words) contents in record { all = one.0; is = one.1; one = one.2 }
+
+-- what holds of every outcome holds of this one
+pub with_all : (Is Has : Outcome → Type 0) (all : Outcome) → Is all → ((other : Outcome) → Has other) → WithOutcome Is Has
+with_all Is Has all is h = record { all = all; is = is; has = h all }
+
+pub of_any : (words : List (List ℕ)) (contents : List ℕ → Option (List ℕ)) (Has : Outcome → Type 0) → ((all : Outcome) → Has all) → OfOutcome words contents Has
+of_any words contents Has h = let one = one_outcome words contents in with_all _ Has one.all one.is h
+
+pub from_any : (command : Command) (s : State) (Has : Outcome → Type 0) → ((all : Outcome) → Has all) → FromState command s Has
+from_any command s Has h = with_all _ Has (outcome_from command s) (is_outcome_from command s) h
+
+pub with_weaker : {Is : Outcome → Type 0} {P : Outcome → Type 0} (Q : Outcome → Type 0) → ((all : Outcome) → P all → Q all) → WithOutcome Is P → WithOutcome Is Q
+with_weaker Q go w = record { all = w.all; is = w.is; has = go w.all w.has }
+
+-- the outcome of words that are no command line, of a text that can't be read, and of one that can
+pub of_words : (words : List (List ℕ)) (contents : List ℕ → Option (List ℕ)) (which : ℕ) (Has : Outcome → Type 0) → asked words ≡ Err which → Has (refused (status.Usage which)) → OfOutcome words contents Has
+of_words words contents which Has e h = record { all = refused (status.Usage which); is = subst (λ r. IsOutcomeAsked r contents (refused (status.Usage which))) (sym e) refl; has = h }
+
+pub of_fault : (words : List (List ℕ)) (contents : List ℕ → Option (List ℕ)) (request : Request) (s : Status) (Has : Outcome → Type 0) → asked words ≡ Ok request
+    → text_of request.file (contents request.file) ≡ Err s → Has (refused s) → OfOutcome words contents Has
+of_fault words contents request s Has e f h = record {
+  all = refused s;
+  is = subst (λ r. IsOutcomeAsked r contents (refused s)) (sym e) (subst (λ t. IsOutcomeOf request t (refused s)) (sym f) refl);
+  has = h;
+}
+
+pub of_state : (words : List (List ℕ)) (contents : List ℕ → Option (List ℕ)) (request : Request) (text : List ℕ) (s : State) (Has : Outcome → Type 0) → asked words ≡ Ok request
+    → text_of request.file (contents request.file) ≡ Ok text → s ≡ first_state request.file request.limit text → FromState request.command s Has → OfOutcome words contents Has
+of_state words contents request text s Has e f same h = record {
+  all = h.all;
+  is = subst (λ r. IsOutcomeAsked r contents h.all) (sym e) (subst (λ t. IsOutcomeOf request t h.all) (sym f) (subst (λ u. IsOutcomeFrom request.command u h.all) same h.is));
+  has = h.has;
+}

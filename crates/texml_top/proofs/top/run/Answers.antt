@@ -1,0 +1,83 @@
+use Rattle.std.proofs.Common.{map, string_bytes, arith}
+use Rattle.texml_top.specs.Request.{asked, read_as}
+use Rattle.texml_top.specs.declared.status.Status.TheVariants.{Usage}
+use Rattle.texml_top.proofs.Outcomes.{of_words, of_any, with_weaker}
+use Rattle.texml_top.proofs.Ending.{refused_ends, no_lines_by, ends_exactly, usage_page, usage_lines, asked_page, asked_lines, start_meets, start_cause, start_page, started}
+use Rattle.texml_top.proofs.top.run.Goals as goal
+
+-- words that are no command line
+pub returns-in-Err-clause-outcome : goal.returns-in-Err-clause-outcome
+returns-in-Err-clause-outcome g c = λ told read wrote memory.
+    of_words (map string_bytes c.args.words.now) (g.F.Files.shelf c.args.files.now).contents c.in-Err.which _ c.in-Err.ensures (refused_ends (Usage c.in-Err.which) (g.S.Sink.ink c.args.out.now))
+
+pub returns-in-Err-clause-meets : goal.returns-in-Err-clause-meets
+returns-in-Err-clause-meets g c = λ told.
+    of_words (map string_bytes c.args.words.now) (g.F.Files.shelf c.args.files.now).contents c.in-Err.which _ c.in-Err.ensures (refused_ends (Usage c.in-Err.which) (g.S.Sink.ink c.args.out.now))
+
+pub returns-in-Err-clause-page : goal.returns-in-Err-clause-page
+returns-in-Err-clause-page g c = λ told.
+    let words = map string_bytes c.args.words.now in
+    of_any words (g.F.Files.shelf c.args.files.now).contents _ (λ all. usage_page (asked words) c.in-Err.which _ all c.in-Err.ensures)
+
+pub returns-in-Err-clause-lines : goal.returns-in-Err-clause-lines
+returns-in-Err-clause-lines g c = λ told wrote.
+    let words = map string_bytes c.args.words.now in
+    of_any words (g.F.Files.shelf c.args.files.now).contents _ (λ all. usage_lines (asked words) c.in-Err.which all _ _ c.in-Err.ensures)
+
+-- a file that can't be read
+pub returns-in-Err-start_engine-clause-outcome : goal.returns-in-Err-start_engine-clause-outcome
+returns-in-Err-start_engine-clause-outcome g c = λ told read wrote memory.
+    let words = map string_bytes c.args.words.now in
+    let shelf = g.F.Files.shelf c.args.files.now in
+    let ink = g.S.Sink.ink c.args.out.now in
+    let request = read_as c.in-Ok.request in
+    let status = c.in-Err-start_engine.status in
+    let starts = c.in-Err-start_engine.ensures.starts in
+    with_weaker _ (λ all may. ends_exactly status all ink ink _ _ (start_cause words shelf request c.in-Ok.ensures _ status _ starts) read wrote memory may)
+    (start_meets words shelf request c.in-Ok.ensures _ status ink starts told)
+
+pub returns-in-Err-start_engine-clause-meets : goal.returns-in-Err-start_engine-clause-meets
+returns-in-Err-start_engine-clause-meets g c = λ told.
+    start_meets (map string_bytes c.args.words.now) (g.F.Files.shelf c.args.files.now) (read_as c.in-Ok.request) c.in-Ok.ensures _ _ (g.S.Sink.ink c.args.out.now) c.in-Err-start_engine.ensures.starts told
+
+pub returns-in-Err-start_engine-clause-page : goal.returns-in-Err-start_engine-clause-page
+returns-in-Err-start_engine-clause-page g c = λ told.
+    let words = map string_bytes c.args.words.now in
+    let shelf = g.F.Files.shelf c.args.files.now in
+    let request = read_as c.in-Ok.request in
+    of_any words shelf.contents _
+    (λ all. asked_page (asked words) request _ all c.in-Ok.ensures (start_page words shelf request c.in-Ok.ensures _ request.command _ all c.in-Err-start_engine.ensures.starts))
+
+pub returns-in-Err-start_engine-clause-lines : goal.returns-in-Err-start_engine-clause-lines
+returns-in-Err-start_engine-clause-lines g c = λ told wrote.
+    let words = map string_bytes c.args.words.now in
+    let request = read_as c.in-Ok.request in
+    of_any words (g.F.Files.shelf c.args.files.now).contents _
+    (λ all. asked_lines (asked words) request all _ _ c.in-Ok.ensures (no_lines_by request.command all (g.S.Sink.ink c.args.out.now)))
+
+-- a command that was performed
+pub returns-clause-outcome : goal.returns-clause-outcome
+returns-clause-outcome g c = λ told read wrote memory.
+    let later = c.in-Ok-start_engine.ensures.faults in
+    with_weaker _ (λ all may. ends_exactly c.perform.result all _ _ _ _ c.perform.ensures.cause (λ rose. read (omega (arith, rose, later))) wrote memory may)
+    (started (map string_bytes c.args.words.now) (g.F.Files.shelf c.args.files.now).contents (read_as c.in-Ok.request) c.in-Ok-start_engine.engine _ c.in-Ok.ensures
+    (c.in-Ok-start_engine.ensures.starts told) c.perform.ensures.meets)
+
+pub returns-clause-meets : goal.returns-clause-meets
+returns-clause-meets g c = λ told.
+    started (map string_bytes c.args.words.now) (g.F.Files.shelf c.args.files.now).contents (read_as c.in-Ok.request) c.in-Ok-start_engine.engine _ c.in-Ok.ensures
+    (c.in-Ok-start_engine.ensures.starts told) c.perform.ensures.meets
+
+pub returns-clause-page : goal.returns-clause-page
+returns-clause-page g c = λ told.
+    let words = map string_bytes c.args.words.now in
+    let request = read_as c.in-Ok.request in
+    with_weaker _ (λ all h. asked_page (asked words) request _ all c.in-Ok.ensures h)
+    (started words (g.F.Files.shelf c.args.files.now).contents request c.in-Ok-start_engine.engine _ c.in-Ok.ensures (c.in-Ok-start_engine.ensures.starts told) c.perform.ensures.page)
+
+pub returns-clause-lines : goal.returns-clause-lines
+returns-clause-lines g c = λ told wrote.
+    let words = map string_bytes c.args.words.now in
+    let request = read_as c.in-Ok.request in
+    with_weaker _ (λ all h. asked_lines (asked words) request all _ _ c.in-Ok.ensures h)
+    (started words (g.F.Files.shelf c.args.files.now).contents request c.in-Ok-start_engine.engine _ c.in-Ok.ensures (c.in-Ok-start_engine.ensures.starts told) (c.perform.ensures.lines wrote))

@@ -1,0 +1,9 @@
+//! Laws of the definitions of a run.
+ghost use Rattle.std.specs.Prelude.{ℕ, List};
+ghost use Rattle.std.specs.declared.option.Option.{Option};
+ghost use Rattle.texml_top.specs.Outcome.{OneOutcome};
+
+/// Whatever the words and the files are, a run has one outcome.
+pub fn one_outcome()
+    ensures { (words : List (List ℕ)) (contents : List ℕ → Option (List ℕ)) → OneOutcome words contents }
+{}
