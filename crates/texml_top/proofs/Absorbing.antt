@@ -1,8 +1,8 @@
 -- Taking tokens and absorbing groups: each decides, and leaves less to be read.
-use Rattle.std.proofs.Common.{◌≡◌, ◌+◌, ◌≤◌, ℕ, zero, suc, Bool, true, false, List, [], ◌∷◌, ◌++◌, if◌then◌else◌, Option, Some, None, refl, sym, ap, ◌∙◌, subst, arith, length}
+use Rattle.std.proofs.Common.{◌≡◌, ◌+◌, ◌≤◌, ℕ, zero, suc, Bool, true, false, List, [], ◌∷◌, ◌++◌, if◌then◌else◌, Option, Some, None, refl, sym, ◌∙◌, subst, arith}
 use Rattle.texml_token.specs.Token.{Token}
 use Rattle.texml_expand.specs.Next.{Taken, Given, Got, AtEnd, Invalid, next}
-use Rattle.texml_expand.specs.State.{State, room, nothing, Answer, Done, Ended, Unfinished, Reading, chain, IsDecided, cats_of, end_of, give, ◌>>=◌}
+use Rattle.texml_expand.specs.State.{State, room, Answer, Done, Ended, Unfinished, Reading, chain, IsDecided, cats_of, end_of, give, ◌>>=◌}
 use Rattle.texml_expand.specs.Expand.{take_given, take}
 use Rattle.texml_expand.specs.Contract.{Lower}
 use Rattle.texml_expand.proofs.Falls.{Leads, leads_chain, lower_then, take_leads, count}

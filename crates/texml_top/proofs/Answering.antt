@@ -1,8 +1,8 @@
 -- Answers without gains that go together, in an engine's terms.
-use Rattle.std.proofs.Common.{◌≡◌, ◌≢◌, ℕ, zero, suc, true, false, if◌then◌else◌, List, [], length, Option, Some, None, Result, Ok, Err, refl, sym, ap, ◌∙◌, subst, arith}
+use Rattle.std.proofs.Common.{◌≡◌, ◌≢◌, ℕ, zero, suc, true, false, if◌then◌else◌, List, [], length, Result, Ok, Err, refl, sym, ap, ◌∙◌, subst}
 use Rattle.std.specs.List.{list_any}
 use Rattle.texml_token.specs.Token.{Token}
-use Rattle.texml_token.specs.Numbers.{Table, Extends, name_at, text_at, token_at, tokens_at}
+use Rattle.texml_token.specs.Numbers.{Table, Extends, name_at, text_at}
 use Rattle.texml_scope.specs.declared.values.Key.{Key as KeyCode}
 use Rattle.texml_scope.specs.declared.values.Key.TheVariants as keys
 use Rattle.texml_scope.specs.declared.values.Meaning.{Meaning as MeaningCode}

@@ -1,5 +1,5 @@
 -- A body that is absorbed token by token.
-use Rattle.std.proofs.Common.{◌≡◌, ◌+◌, ◌-◌, ◌≤◌, ◌<◌, ℕ, zero, suc, ◌==◌, Bool, true, false, cond, if◌then◌else◌, List, [], ◌∷◌, ◌++◌, length, take, length-append, Option, None, Result, Ok, Err, refl, sym, ap, ◌∙◌, subst, arith, map, get_or, add-one, ◌||◌}
+use Rattle.std.proofs.Common.{◌≡◌, ◌+◌, ◌-◌, ◌≤◌, ◌<◌, ℕ, zero, suc, Bool, true, false, cond, if◌then◌else◌, List, [], ◌∷◌, ◌++◌, length, take, length-append, None, Err, refl, sym, ap, ◌∙◌, subst, arith, map, get_or, add-one, ◌||◌}
 use Rattle.std.specs.List.{count_by, list_any}
 use Rattle.std.proofs.lemmas.List.{map-append, length-map, get_or-map}
 use Rattle.std.proofs.lemmas.List.Elements.{All-nil, All-push}
@@ -11,7 +11,7 @@ use Rattle.texml_token.specs.Token.{Token, Char, Active, Named, Fixed}
 use Rattle.texml_token.specs.declared.category.TheConstants.{BEGIN_GROUP, END_GROUP}
 use Rattle.texml_expand.specs.declared.stop.Stop.{Stop}
 use Rattle.texml_expand.specs.declared.stop.Stop.TheVariants as stop
-use Rattle.texml_expand.specs.State.{State, room, Gains, nothing, Answer, Done, Ended, Unfinished, Reading, after, chain, give}
+use Rattle.texml_expand.specs.State.{State, room, nothing, Answer, Done, Ended, Unfinished, after, chain, give}
 use Rattle.texml_expand.specs.Contract.{Silent}
 use Rattle.texml_token.specs.Numbers.{token_at, tokens_at, TokenWithin, TokensWithin}
 use Rattle.texml_token.specs.declared.tokens.Token.{Token as TokenCode}

@@ -1,20 +1,19 @@
 -- Commands and tokens: each decides, and leaves no more to be read.
-use Rattle.std.proofs.Common.{◌≡◌, ◌+◌, ◌≤◌, ℕ, Bool, true, false, if◌then◌else◌, List, [], ◌∷◌, map, length, Option, Some, None, Result, Ok, Err, refl, sym, ap, ◌∙◌, subst, arith, ◌==◌}
+use Rattle.std.proofs.Common.{◌≡◌, ℕ, Bool, true, false, if◌then◌else◌, List, [], ◌∷◌, length, Option, Some, None, Ok, Err, refl, ap, arith, ◌==◌}
 use Rattle.std.specs.List.{list_any, sum_by}
 use Rattle.std.proofs.lemmas.List.Sums.{sum_by-cons}
 use Rattle.texml_token.specs.Token.{Token, Char, Active, Named, Fixed}
 use Rattle.texml_token.specs.declared.category.TheConstants.{BEGIN_GROUP, END_GROUP, PARAMETER}
 use Rattle.texml_token.specs.declared.fault_code.TheConstants.{BAD_PARAMETER, MISSING_BRACE, MISPLACED}
-use Rattle.texml_scope.specs.Groups.{Open, Groups, EndFault, NoGroup, WrongGroup, begin_group, end_in, end_group}
+use Rattle.texml_scope.specs.Groups.{Open, WrongGroup, begin_group, end_in}
 use Rattle.texml_scope.specs.World.{same_kind}
-use Rattle.texml_scope.specs.Texts.{Key, Name, Value, Meaning, Undefined, Macro, Builtin, World}
+use Rattle.texml_scope.specs.Texts.{Key, Name, Value, Meaning, Undefined, Macro, Builtin}
 use Rattle.texml_scope.specs.Texts.{Active as ActiveKey}
 use Rattle.texml_scope.specs.declared.scope.GroupKind.{GroupKind}
 use Rattle.texml_scope.specs.declared.scope.GroupKind.TheVariants.{Brace}
 use Rattle.texml_scope.specs.declared.builtins.TheConstants.{RELAX, DEF, PAR}
-use Rattle.texml_expand.specs.Rest.{Tok, size}
 use Rattle.texml_expand.specs.Next.{Taken}
-use Rattle.texml_expand.specs.State.{State, room, Answer, Done, Ended, Unfinished, Reading, chain, IsDecided, give, fail, change}
+use Rattle.texml_expand.specs.State.{State, room, Reading, chain, IsDecided, give, fail, change}
 use Rattle.texml_expand.specs.Expand.{take, put, meaning_in}
 use Rattle.texml_expand.specs.Contract.{Lower}
 use Rattle.texml_expand.proofs.Items.{size_put}
@@ -23,7 +22,6 @@ use Rattle.texml_expand.proofs.Settle.{chain_decided, take_decided}
 use Rattle.texml_expand.proofs.Rounds.{lower_none}
 use Rattle.texml_top.specs.Absorb.{has_category, absorb}
 use Rattle.texml_top.specs.Digest.{needed, next_token, key_of, open_brace, plain_body, set_meaning, define, begin_brace, ended, end_brace, none, is_text, digest_char, digest_builtin, digest_meaning, digest_token}
-use Rattle.texml_top.specs.declared.material.Material.{Material}
 use Rattle.texml_top.proofs.Absorbing.{Takes, take_takes, leads_weaker, any, absorb_decided, absorb_leads}
 
 -- a reading that decides, and leaves no more to be read

@@ -1,14 +1,14 @@
 -- Digestion has one answer, and some depth decides it.
-use Rattle.std.proofs.Common.{◌≡◌, ◌+◌, ◌-◌, ◌<◌, ◌≤◌, ℕ, zero, suc, List, [], ◌∷◌, ◌++◌, length, Option, Some, None, Result, Ok, Err, refl, sym, ap, ◌∙◌, subst, arith, inl, inr, eq-or-lt_of_le}
+use Rattle.std.proofs.Common.{◌≡◌, ◌+◌, ◌-◌, ◌<◌, ◌≤◌, ℕ, zero, suc, List, [], ◌++◌, Option, Some, None, Result, Ok, Err, refl, sym, ap, ◌∙◌, subst, arith, inl, inr, eq-or-lt_of_le}
 use Rattle.texml_token.specs.Token.{Token}
 use Rattle.texml_watch.specs.declared.record.Record.{Record}
 use Rattle.texml_expand.specs.declared.stop.Stop.{Stop}
 use Rattle.texml_expand.specs.declared.stop.Stop.TheVariants as stop
 use Rattle.texml_expand.specs.State.{State, room, Gains, Answer, Done, Ended, Unfinished, Reading, chain, IsDecided, give}
-use Rattle.texml_expand.specs.Expand.{level, fetches}
+use Rattle.texml_expand.specs.Expand.{fetches}
 use Rattle.texml_expand.specs.Contract.{Lower, Gives, Silent}
 use Rattle.texml_expand.specs.Hearing.{Meets, Follows}
-use Rattle.texml_expand.proofs.Order.{Grows, grows_refl, grows_trans, chain_grows, decided_after, Mono, levels_grow, fetches_mono}
+use Rattle.texml_expand.proofs.Order.{Grows, grows_refl, chain_grows, decided_after, Mono, levels_grow, fetches_mono}
 use Rattle.texml_expand.proofs.Falls.{Leads, lower_then, count, level_leads}
 use Rattle.texml_expand.proofs.Total.{total, agree, depth, decides, level_total, fetch_given}
 use Rattle.texml_expand.proofs.Meeting.{meets_then, meets_stop, meets_silent, part_untold, follows_of}

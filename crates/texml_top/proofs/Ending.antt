@@ -1,5 +1,5 @@
 -- How a command and a run may end.
-use Rattle.std.proofs.Common.{◌≡◌, ◌≢◌, ℕ, List, [], ◌∷◌, ◌++◌, IsTrue, Option, Some, None, Result, Ok, Err, refl, sym, ap, ◌∙◌, subst, arith, append-nil, append_assoc}
+use Rattle.std.proofs.Common.{◌≡◌, ◌≢◌, ℕ, List, [], ◌∷◌, ◌++◌, IsTrue, Option, Some, None, Result, Ok, Err, refl, sym, ap, ◌∙◌, subst, arith, codes, append-nil, append_assoc}
 use Rattle.std.specs.Option.{option_to_list}
 use Rattle.texml_base.specs.Outside.{Shelf, Ink, inked}
 use Rattle.texml_base.specs.Rising.{Rose}
@@ -13,7 +13,7 @@ use Rattle.texml_expand.specs.declared.stop.Stop.TheVariants as stop
 use Rattle.texml_expand.specs.State.{State, End, Answer, Tex, Limit, Done, Ended, added}
 use Rattle.texml_expand.specs.Held.{Held, state_of}
 use Rattle.texml_expand.specs.Contract.{Gives, Because, outside}
-use Rattle.texml_expand.specs.Hearing.{HeardLast, MeetsEnd, MeetsPart, Follows}
+use Rattle.texml_expand.specs.Hearing.{HeardLast, MeetsEnd, MeetsFirst, MeetsCut, MeetsPart, Follows}
 use Rattle.texml_top.specs.Request.{Request, asked}
 use Rattle.texml_top.specs.declared.request.Command.{Command}
 use Rattle.texml_top.specs.declared.request.Command.TheVariants.{Convert, Expand}
@@ -59,20 +59,29 @@ module _ {T : Type 0} (hear part : T → Record → T → Type 0) where
       let all : Outcome = record { status = status_of e; bytes = []; records = m.gains.records } in
       record { all = all; is = is_from Convert s answer (Ended e m.gains) all g m.is refl; has = (refl, sym (inked-nil ink)) }
 
-  pub convert_stops : (e : Stop) (s new : State) (a b : T) (ink : Ink) → Follows hear part (digests [] s) (Err e) new a b → FromState Convert s (λ all. MayEnd (stopped e) all ink ink)
-  convert_stops (stop.Tex f) s new a b ink g = convert_ends (Tex f) s a b ink g.answer g.given g.meets
-  convert_stops (stop.Limit n) s new a b ink g = convert_ends (Limit n) s a b ink g.answer g.given g.meets
-  convert_stops stop.ReadFailed s new a b ink g = from_any Convert s _ (λ all. none_written all.bytes ink)
-  convert_stops stop.TellFailed s new a b ink g = from_any Convert s _ (λ all. none_written all.bytes ink)
-  convert_stops stop.NoMemory s new a b ink g = from_any Convert s _ (λ all. none_written all.bytes ink)
+  -- nobody is told, so that telling can't fail
+  pub convert_stops : (e : Stop) (s new : State) (a b : T) (ink : Ink) (reads reads' : ℕ) → Because {A = List Material} (Err e) (outside reads 0) (outside reads' 0) → Follows hear part (digests [] s) (Err e) new a b
+      → FromState Convert s (λ all. MayEnd (stopped e) all ink ink)
+  convert_stops (stop.Tex f) s new a b ink reads reads' h g = convert_ends (Tex f) s a b ink g.answer g.given g.meets
+  convert_stops (stop.Limit n) s new a b ink reads reads' h g = convert_ends (Limit n) s a b ink g.answer g.given g.meets
+  convert_stops stop.ReadFailed s new a b ink reads reads' h g = from_any Convert s _ (λ all. none_written all.bytes ink)
+  convert_stops stop.TellFailed s new a b ink reads reads' h g = absurd (omega (arith, h))
+  convert_stops stop.NoMemory s new a b ink reads reads' h g = from_any Convert s _ (λ all. none_written all.bytes ink)
 
--- nobody is told, so that telling can't fail
 pub silent_page : (e : Stop) (all : Outcome) (reads reads' : ℕ) → Because {A = List Material} (Err e) (outside reads 0) (outside reads' 0) → WritesPage Convert (stopped e) all
 silent_page (stop.Tex f) all reads reads' h = tt
 silent_page (stop.Limit n) all reads reads' h = tt
 silent_page stop.ReadFailed all reads reads' h = tt
 silent_page stop.TellFailed all reads reads' h = absurd (omega (arith, h))
 silent_page stop.NoMemory all reads reads' h = tt
+
+-- a line has bytes
+within_some : (xs : List ℕ) (c : ℕ) (rest : List ℕ) → xs ++ c ∷ rest ≢ []
+within_some [] c rest = λ none. cc
+within_some (x ∷ xs) c rest = λ none. cc
+
+line_some : (news : Record) (rest : List ℕ) → trace_line news ++ rest ≢ []
+line_some news rest = λ none. let front = news.token ++ codes " -> " ++ news.put in within_some front 10 rest (sym (append_assoc front (10 ∷ []) rest) ∙ none)
 
 -- expand, by what digestion answers where its trace is written
 module _ {T : Type 0} (lent : T → Lent) where
@@ -108,28 +117,53 @@ module _ {T : Type 0} (lent : T → Lent) where
   part_loan rows None a b h = (Wrote-trace lent a b rows h).loan
   part_loan rows (Some last) a b h = (Wrote-within lent a h.0 b rows last h.1 h.2).loan
 
+  -- records that were heard, and one in part
+  first_part : (answer : Answer (List Material)) (a b : T) → MeetsFirst Hears HearsPart answer a b → MeetsPart Hears HearsPart answer a b
+  first_part answer a b m = record { rows = m.rows; last = None; more = m.more; is = m.is ∙ ap (λ l. l ++ m.more) (sym (append-nil m.rows)); heard = m.heard }
+
+  cut_part : (answer : Answer (List Material)) (a b : T) → MeetsCut Hears HearsPart answer a b → MeetsPart Hears HearsPart answer a b
+  cut_part answer a b m = record { rows = m.rows; last = Some m.last; more = m.more; is = m.is ∙ sym (append_assoc m.rows (m.last ∷ []) m.more); heard = m.heard }
+
+  -- a trace with a line has bytes
+  trace_some : (rows more : List Record) (last : Record) → trace (rows ++ last ∷ more) ≢ []
+  trace_some [] more last = line_some last (trace more)
+  trace_some (row ∷ rows) more last = line_some row (trace (rows ++ last ∷ more))
+
   pub expand_loan : (r : Result (List Material) Stop) (s new : State) (a b : T) → Follows Hears HearsPart (digests [] s) r new a b → (lent b).loan ≡ (lent a).loan
   expand_loan (Ok v) s new a b g = (Wrote-trace lent a b g.meets.gains.records g.meets.heard).loan
   expand_loan (Err (stop.Tex f)) s new a b g = (Wrote-trace lent a b g.meets.gains.records g.meets.heard).loan
   expand_loan (Err (stop.Limit n)) s new a b g = (Wrote-trace lent a b g.meets.gains.records g.meets.heard).loan
-  expand_loan (Err stop.ReadFailed) s new a b g = part_loan g.meets.rows g.meets.last a b g.meets.heard
-  expand_loan (Err stop.TellFailed) s new a b g = part_loan g.meets.rows g.meets.last a b g.meets.heard
+  expand_loan (Err stop.ReadFailed) s new a b g = part_loan g.meets.rows None a b g.meets.heard
+  expand_loan (Err stop.TellFailed) s new a b g = part_loan g.meets.rows (Some g.meets.last) a b g.meets.heard
   expand_loan (Err stop.NoMemory) s new a b g = part_loan g.meets.rows g.meets.last a b g.meets.heard
 
-  -- the outcome, where its trace was written in part
-  expand_part : (s : State) (a b : T) (answer : Answer (List Material)) → Gives (digests [] s) answer → MeetsPart Hears HearsPart answer a b → FromState Expand s (λ all. WrotePart all.bytes (lent a).ink (lent b).ink)
-  expand_part s a b answer g m =
+  -- what holds of the trace holds of the outcome's bytes
+  by_trace : (s : State) (answer : Answer (List Material)) (Has : List ℕ → Type 0) → Gives (digests [] s) answer → Has (trace (added answer).records) → FromState Expand s (λ all. Has all.bytes)
+  by_trace s answer Has g h =
       record {
         all = outcome_by Expand answer;
         is = is_from Expand s answer answer _ g refl (is_by Expand answer g.decided);
-        has = subst (λ bytes. WrotePart bytes (lent a).ink (lent b).ink) (sym (expand_bytes answer g.decided ∙ ap trace m.is)) (part_written m.rows m.more m.last a b m.heard);
+        has = subst Has (sym (expand_bytes answer g.decided)) h;
       }
+
+  trace_part : (answer : Answer (List Material)) (a b : T) → MeetsPart Hears HearsPart answer a b → WrotePart (trace (added answer).records) (lent a).ink (lent b).ink
+  trace_part answer a b m = subst (λ l. WrotePart (trace l) (lent a).ink (lent b).ink) (sym m.is) (part_written m.rows m.more m.last a b m.heard)
+
+  -- the outcome, where its trace was written in part
+  expand_part : (s : State) (a b : T) (answer : Answer (List Material)) → Gives (digests [] s) answer → MeetsPart Hears HearsPart answer a b → FromState Expand s (λ all. WrotePart all.bytes (lent a).ink (lent b).ink)
+  expand_part s a b answer g m = by_trace s answer (λ bytes. WrotePart bytes (lent a).ink (lent b).ink) g (trace_part answer a b m)
+
+  -- the sink failed in a line
+  expand_cut : (s : State) (a b : T) (answer : Answer (List Material)) → Gives (digests [] s) answer → MeetsCut Hears HearsPart answer a b → FromState Expand s (λ all. MayEnd status.WriteFault all (lent a).ink (lent b).ink)
+  expand_cut s a b answer g m =
+      by_trace s answer (λ bytes. (bytes ≢ []) × WrotePart bytes (lent a).ink (lent b).ink) g
+      (λ none. trace_some m.rows m.more m.last (sym (ap trace m.is) ∙ none), trace_part answer a b (cut_part answer a b m))
 
   pub expand_stops : (e : Stop) (s new : State) (a b : T) → Follows Hears HearsPart (digests [] s) (Err e) new a b → FromState Expand s (λ all. MayEnd (stopped e) all (lent a).ink (lent b).ink)
   expand_stops (stop.Tex f) s new a b g = expand_ends (Tex f) s a b g.answer g.given g.meets
   expand_stops (stop.Limit n) s new a b g = expand_ends (Limit n) s a b g.answer g.given g.meets
-  expand_stops stop.ReadFailed s new a b g = expand_part s a b g.answer g.given g.meets
-  expand_stops stop.TellFailed s new a b g = expand_part s a b g.answer g.given g.meets
+  expand_stops stop.ReadFailed s new a b g = expand_part s a b g.answer g.given (first_part g.answer a b g.meets)
+  expand_stops stop.TellFailed s new a b g = expand_cut s a b g.answer g.given g.meets
   expand_stops stop.NoMemory s new a b g = expand_part s a b g.answer g.given g.meets
 
   -- whole lines
@@ -157,8 +191,8 @@ module _ {T : Type 0} (lent : T → Lent) where
       lines_all s g.answer g.meets.gains.records [] a b g.given (no_more _ _ (ap (λ x. (added x).records) g.meets.is)) (Wrote-trace lent a b g.meets.gains.records g.meets.heard).ink
   expand_lines (Err (stop.Limit n)) s new a b g calm =
       lines_all s g.answer g.meets.gains.records [] a b g.given (no_more _ _ (ap (λ x. (added x).records) g.meets.is)) (Wrote-trace lent a b g.meets.gains.records g.meets.heard).ink
-  expand_lines (Err stop.ReadFailed) s new a b g calm = lines_part s a b g.answer g.given g.meets calm
-  expand_lines (Err stop.TellFailed) s new a b g calm = lines_part s a b g.answer g.given g.meets calm
+  expand_lines (Err stop.ReadFailed) s new a b g calm = lines_part s a b g.answer g.given (first_part g.answer a b g.meets) calm
+  expand_lines (Err stop.TellFailed) s new a b g calm = lines_part s a b g.answer g.given (cut_part g.answer a b g.meets) calm
   expand_lines (Err stop.NoMemory) s new a b g calm = lines_part s a b g.answer g.given g.meets calm
 
 -- the cause of a stop is one of the run

@@ -1,11 +1,10 @@
 -- An engine that digests, turn by turn.
-use Rattle.std.proofs.Common.{◌≡◌, ◌+◌, ◌-◌, ◌≤◌, ◌<◌, ℕ, List, [], ◌∷◌, ◌++◌, Option, Some, None, Result, Ok, Err, refl, sym, ap, ◌∙◌, subst, arith}
+use Rattle.std.proofs.Common.{◌≡◌, ◌≤◌, ℕ, List, [], ◌++◌, Some, None, Ok, sym, subst, arith}
 use Rattle.texml_token.specs.Token.{Token}
 use Rattle.texml_watch.specs.declared.record.Record.{Record}
-use Rattle.texml_expand.specs.declared.stop.Stop.{Stop}
-use Rattle.texml_expand.specs.State.{State, room, nothing, Done}
+use Rattle.texml_expand.specs.State.{State, nothing, Done}
 use Rattle.texml_expand.specs.Expand.{fetches}
-use Rattle.texml_expand.specs.Contract.{Lower, Stops, outside}
+use Rattle.texml_expand.specs.Contract.{Lower}
 use Rattle.texml_expand.specs.Hearing.{Follows}
 use Rattle.texml_expand.specs.Held.{Held, state_of, Sound, Kept}
 use Rattle.texml_expand.proofs.Falls.{lower_then}

@@ -1,6 +1,6 @@
 -- What an engine stands for when its world is changed.
-use Rattle.std.proofs.Common.{◌≡◌, ◌+◌, ◌≤◌, ℕ, List, map, length, Result, Ok, Err, refl, sym, ap, ◌∙◌, subst}
-use Rattle.std.specs.Result.{MatchResult, IfOk}
+use Rattle.std.proofs.Common.{◌≡◌, ℕ, List, length, Result, Ok, Err, sym, ap, ◌∙◌, subst}
+use Rattle.std.specs.Result.{MatchResult}
 use Rattle.texml_token.specs.Numbers.{tokens_at, TokensWithin}
 use Rattle.texml_token.specs.declared.tokens.Token.{Token as TokenCode}
 use Rattle.texml_token.proofs.Table.{extends_refl}
@@ -10,8 +10,7 @@ use Rattle.texml_scope.specs.declared.values.Value.TheVariants as values
 use Rattle.texml_scope.specs.declared.scope.GroupKind.TheVariants.{Brace}
 use Rattle.texml_scope.specs.Groups.{set_local, begin_group, end_group}
 use Rattle.texml_scope.specs.World.{same_key, same_kind, world_of, answer_of}
-use Rattle.texml_scope.specs.Texts.{World}
-use Rattle.texml_scope.specs.Numbers.{world_at, key_at, meaning_at, answer_at, KeyWithin, MeaningWithin, WorldCovered}
+use Rattle.texml_scope.specs.Numbers.{world_at, key_at, meaning_at, KeyWithin, MeaningWithin, WorldCovered}
 use Rattle.texml_scope.proofs.Texts.{world_set_local, world_begin, world_end}
 use Rattle.texml_scope.proofs.Covering.{set_local_covered, end_covered}
 use Rattle.texml_expand.specs.declared.stop.Stop.{Stop}

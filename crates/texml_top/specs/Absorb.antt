@@ -5,7 +5,7 @@ use Rattle.texml_token.specs.Token.{Token, Char, Active, Named, Fixed}
 use Rattle.texml_token.specs.declared.category.TheConstants.{BEGIN_GROUP, END_GROUP}
 use Rattle.texml_token.specs.declared.fault_code.TheConstants.{FILE_ENDED}
 use Rattle.texml_expand.specs.Next.{Taken}
-use Rattle.texml_expand.specs.State.{State, room, nothing, Answer, Done, Ended, Unfinished, Reading, ◌>>=◌, give, fail}
+use Rattle.texml_expand.specs.State.{room, nothing, Answer, Done, Ended, Unfinished, Reading, ◌>>=◌, give, fail}
 use Rattle.texml_expand.specs.Expand.{take as take_token}
 
 -- a character of a category

@@ -1,5 +1,5 @@
 -- Digestion: what the text puts into the document, and the commands that it gives (The TeXbook, chapters 7, 20 and 24).
-use Rattle.std.specs.Prelude.{ℕ, zero, suc, ◌==◌, ◌||◌, Bool, true, List, [], ◌∷◌, ◌++◌, Option, None, Some, Result, Ok, Err, if◌then◌else◌}
+use Rattle.std.specs.Prelude.{ℕ, zero, suc, ◌==◌, ◌||◌, Bool, List, [], ◌∷◌, ◌++◌, Option, None, Some, Result, Ok, Err, if◌then◌else◌}
 use Rattle.std.specs.List.{list_any}
 use Rattle.texml_token.specs.Token.{Token, Char, Active, Named, Fixed}
 use Rattle.texml_token.specs.declared.category.TheConstants.{BEGIN_GROUP, END_GROUP, PARAMETER, SPACE, LETTER, OTHER}
@@ -12,7 +12,7 @@ use Rattle.texml_scope.specs.declared.scope.GroupKind.{GroupKind}
 use Rattle.texml_scope.specs.declared.scope.GroupKind.TheVariants.{Brace}
 use Rattle.texml_scope.specs.declared.builtins.TheConstants.{RELAX, DEF, PAR}
 use Rattle.texml_expand.specs.Next.{Taken}
-use Rattle.texml_expand.specs.State.{State, nothing, Answer, Done, Unfinished, Reading, ◌>>=◌, ◌>>◌, give, fail, change}
+use Rattle.texml_expand.specs.State.{State, nothing, Answer, Unfinished, Reading, ◌>>=◌, ◌>>◌, give, fail, change}
 use Rattle.texml_expand.specs.Expand.{take, put, meaning_in, spelling, level}
 use Rattle.texml_top.specs.Absorb.{has_category, absorb}
 use Rattle.texml_top.specs.declared.material.Material.{Material}

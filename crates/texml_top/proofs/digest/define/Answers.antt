@@ -4,7 +4,7 @@ use Rattle.texml_token.specs.Numbers.{token_at, tokens_at}
 use Rattle.texml_scope.specs.Texts.{Key, Macro}
 use Rattle.texml_scope.specs.Numbers.{key_at}
 use Rattle.texml_expand.specs.State.{change}
-use Rattle.texml_expand.specs.Held.{Held, state_of, Kept}
+use Rattle.texml_expand.specs.Held.{state_of}
 use Rattle.texml_expand.specs.Contract.{Silent}
 use Rattle.texml_expand.proofs.Fronts.{kept_then}
 use Rattle.texml_top.specs.Digest.{set_meaning}

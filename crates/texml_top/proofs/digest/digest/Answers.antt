@@ -1,4 +1,4 @@
-use Rattle.std.proofs.Common.{◌≡◌, arith, sym, ◌∙◌, rules}
+use Rattle.std.proofs.Common.{arith, sym, ◌∙◌, rules}
 use Rattle.std.specs.Option.{option_to_list}
 use Rattle.texml_token.specs.Numbers.{token_at}
 use Rattle.texml_expand.specs.Held.{state_of}

@@ -8,7 +8,6 @@ use Rattle.texml_expand.specs.State.{fail}
 use Rattle.texml_expand.specs.Held.{Held, state_of, ok_at}
 use Rattle.texml_expand.specs.Contract.{IsFaultAt}
 use Rattle.texml_expand.proofs.Taking.{silent_fault}
-use Rattle.texml_top.specs.Digest.{digest_meaning}
 use Rattle.texml_top.proofs.Answering.{digest_as}
 use Rattle.texml_top.proofs.digest.digest_key.Goals as goal
 use Rattle.texml_top.proofs.digest.digest_key.Goals.{in-Builtin, in-Macro, in-Undefined}

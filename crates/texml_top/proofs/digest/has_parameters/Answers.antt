@@ -1,4 +1,4 @@
-use Rattle.std.proofs.Common.{◌≡◌, ◌≤◌, ◌<◌, length, take_all, ap, sym, ◌∙◌}
+use Rattle.std.proofs.Common.{◌≤◌, ◌<◌, length, take_all, ap, sym, ◌∙◌}
 use Rattle.std.specs.List.{list_any}
 use Rattle.texml_token.specs.Numbers.{token_at, tokens_at}
 use Rattle.texml_token.specs.declared.category.TheConstants.{PARAMETER}

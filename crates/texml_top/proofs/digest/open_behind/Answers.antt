@@ -1,4 +1,4 @@
-use Rattle.std.proofs.Common.{◌≡◌, ◌≢◌, [], arith, sym, ◌∙◌}
+use Rattle.std.proofs.Common.{◌≢◌, [], arith}
 use Rattle.texml_top.proofs.digest.open_behind.Goals as goal
 
 pub overflow_sub-result : goal.overflow_sub-result
