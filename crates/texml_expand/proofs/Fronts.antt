@@ -1,22 +1,21 @@
 -- What an engine stands for when the front is taken, judged and expanded.
-use Rattle.std.proofs.Common.{◌≡◌, ◌+◌, ◌-◌, ◌≤◌, ℕ, List, ◌++◌, map, length, Option, Some, None, Result, Ok, Err, refl, sym, ap, ◌∙◌, subst, arith}
+use Rattle.std.proofs.Common.{◌≡◌, ◌+◌, ◌-◌, ◌≤◌, ℕ, List, ◌++◌, map, length, Some, Result, Ok, Err, refl, sym, ap, ◌∙◌, subst, arith}
 use Rattle.std.specs.Result.{OnOk, IfOk}
 use Rattle.std.specs.Prelude.{sum_by}
-use Rattle.texml_token.specs.Token.{Token}
 use Rattle.texml_token.specs.Numbers.{Table, Extends, tokens_at, TokensWithin}
 use Rattle.texml_token.specs.declared.tokens.Token.{Token as TokenCode}
 use Rattle.texml_scope.specs.declared.values.Key.{Key as KeyCode}
 use Rattle.texml_scope.specs.declared.values.Value.{Value as ValueCode}
 use Rattle.texml_scope.specs.Texts.{World}
-use Rattle.texml_scope.specs.Numbers.{key_at, value_at, world_at, KeyWithin, WorldCovered}
+use Rattle.texml_scope.specs.Numbers.{key_at, value_at, KeyWithin, WorldCovered}
 use Rattle.texml_scope.specs.World.{world_of}
 use Rattle.texml_scope.proofs.Texts.{world_says, world_stays}
 use Rattle.texml_expand.specs.declared.stop.Stop.{Stop}
 use Rattle.texml_expand.specs.declared.stop.Stop.TheVariants as stop
 use Rattle.texml_expand.specs.declared.engine.Front.{Front as FrontCode}
-use Rattle.texml_expand.specs.Rest.{Item, Tok, Place, HeldRest, items_at, size}
+use Rattle.texml_expand.specs.Rest.{Item, Tok, Place, HeldRest, size}
 use Rattle.texml_expand.specs.Next.{Taken}
-use Rattle.texml_expand.specs.State.{State, nothing, Answer, Done, Ended, chain}
+use Rattle.texml_expand.specs.State.{State, nothing, Done, chain}
 use Rattle.texml_expand.specs.Expand.{take, front, front_taken, finished}
 use Rattle.texml_expand.specs.Fronts.{front_at, front_count}
 use Rattle.texml_expand.specs.Held.{Held, state_of, Sound, Kept, ok_at}

@@ -11,5 +11,6 @@ pub mod Falls
 pub mod Settle
 pub mod Total
 pub mod Meeting
+mod Rows
 pub mod Rounds
 pub mod Fronts

@@ -1,5 +1,5 @@
 -- How the answers of readings that go together are met.
-use Rattle.std.proofs.Common.{◌≡◌, ◌≤◌, ℕ, Bool, true, false, List, [], ◌∷◌, ◌++◌, Option, Some, None, Result, Ok, Err, refl, sym, ap, ◌∙◌, subst, arith, append_assoc, append-nil}
+use Rattle.std.proofs.Common.{◌≡◌, ℕ, Bool, true, false, List, [], ◌∷◌, ◌++◌, Option, Some, None, Result, Ok, Err, refl, sym, ap, ◌∙◌, subst, arith, append_assoc, append-nil}
 use Rattle.std.specs.Option.{option_to_list}
 use Rattle.texml_watch.specs.declared.record.Record.{Record}
 use Rattle.texml_watch.specs.Telling.{AllHeard}
@@ -8,7 +8,7 @@ use Rattle.texml_expand.specs.declared.stop.Stop.{Stop}
 use Rattle.texml_expand.specs.declared.stop.Stop.TheVariants as stop
 use Rattle.texml_expand.specs.State.{State, Gains, nothing, ◌⊕◌, Answer, Done, Ended, Unfinished, Reading, after, chain, added, tell}
 use Rattle.texml_expand.specs.Contract.{Silent, Gives, Stops, Because, outside}
-use Rattle.texml_expand.specs.Hearing.{HearsIf, HearsPartIf, hears, hears_part, HeardLast, MeetsDone, MeetsPart, Meets, Follows}
+use Rattle.texml_expand.specs.Hearing.{HearsIf, HearsPartIf, hears, hears_part, HeardLast, MeetsFirst, MeetsCut, MeetsPart, Meets, Follows}
 
 -- what is added
 added_after : {A : Type 0} (gains : Gains) (a : Answer A) → added (after gains a) ≡ gains ⊕ added a
@@ -36,13 +36,30 @@ module _ {T : Type 0} (hear part : T → Record → T → Type 0) where
     heard = heard_last gains.records k.rows k.last a b c h k.heard;
   }
 
+  first_after : {A : Type 0} (gains : Gains) (x : Answer A) (a b c : T) → AllHeard hear a gains.records b → MeetsFirst hear part x b c → MeetsFirst hear part (after gains x) a c
+  first_after gains x a b c h k = record {
+    rows = gains.records ++ k.rows;
+    more = k.more;
+    is = ap (λ g. g.records) (added_after gains x) ∙ (ap (λ y. gains.records ++ y) k.is ∙ simp append_assoc);
+    heard = AllHeard-append hear a b c gains.records k.rows h k.heard;
+  }
+
+  cut_after : {A : Type 0} (gains : Gains) (x : Answer A) (a b c : T) → AllHeard hear a gains.records b → MeetsCut hear part x b c → MeetsCut hear part (after gains x) a c
+  cut_after gains x a b c h k = record {
+    rows = gains.records ++ k.rows;
+    last = k.last;
+    more = k.more;
+    is = ap (λ g. g.records) (added_after gains x) ∙ (ap (λ y. gains.records ++ y) k.is ∙ simp append_assoc);
+    heard = heard_last gains.records k.rows (Some k.last) a b c h k.heard;
+  }
+
   -- the records of a first part were heard before
   meets_after : {A : Type 0} (gains : Gains) (x : Answer A) (r : Result A Stop) (s : State) (a b c : T) → AllHeard hear a gains.records b → Meets hear part x r s b c → Meets hear part (after gains x) r s a c
   meets_after gains x (Ok v) s a b c h k = record { gains = gains ⊕ k.gains; is = ap (after gains) k.is; heard = AllHeard-append hear a b c gains.records k.gains.records h k.heard }
   meets_after gains x (Err (stop.Tex n)) s a b c h k = record { gains = gains ⊕ k.gains; is = ap (after gains) k.is; heard = AllHeard-append hear a b c gains.records k.gains.records h k.heard }
   meets_after gains x (Err (stop.Limit n)) s a b c h k = record { gains = gains ⊕ k.gains; is = ap (after gains) k.is; heard = AllHeard-append hear a b c gains.records k.gains.records h k.heard }
-  meets_after gains x (Err stop.ReadFailed) s a b c h k = part_after gains x a b c h k
-  meets_after gains x (Err stop.TellFailed) s a b c h k = part_after gains x a b c h k
+  meets_after gains x (Err stop.ReadFailed) s a b c h k = first_after gains x a b c h k
+  meets_after gains x (Err stop.TellFailed) s a b c h k = cut_after gains x a b c h k
   meets_after gains x (Err stop.NoMemory) s a b c h k = part_after gains x a b c h k
 
   -- a first part that is done, and what follows it
@@ -56,12 +73,22 @@ module _ {T : Type 0} (hear part : T → Record → T → Type 0) where
       let more = added_chain x f in
       record { rows = k.rows; last = k.last; more = k.more ++ more.0; is = more.1 ∙ (ap (λ y. y ++ more.0) k.is ∙ append_assoc (k.rows ++ option_to_list k.last) k.more more.0); heard = k.heard }
 
+  first_chain : {A B : Type 0} (x : Answer A) (f : A → Reading B) (a b : T) → MeetsFirst hear part x a b → MeetsFirst hear part (chain x f) a b
+  first_chain x f a b k =
+      let more = added_chain x f in
+      record { rows = k.rows; more = k.more ++ more.0; is = more.1 ∙ (ap (λ y. y ++ more.0) k.is ∙ append_assoc k.rows k.more more.0); heard = k.heard }
+
+  cut_chain : {A B : Type 0} (x : Answer A) (f : A → Reading B) (a b : T) → MeetsCut hear part x a b → MeetsCut hear part (chain x f) a b
+  cut_chain x f a b k =
+      let more = added_chain x f in
+      record { rows = k.rows; last = k.last; more = k.more ++ more.0; is = more.1 ∙ (ap (λ y. y ++ more.0) k.is ∙ append_assoc k.rows (k.last ∷ k.more) more.0); heard = k.heard }
+
   -- a first part that stops
   pub meets_stop : {A B : Type 0} (x : Answer A) (f : A → Reading B) (e : Stop) (s : State) (a b : T) → Meets hear part x (Err e) s a b → Meets hear part (chain x f) (Err e) s a b
   meets_stop x f (stop.Tex n) s a b k = record { gains = k.gains; is = ap (λ x. chain x f) k.is; heard = k.heard }
   meets_stop x f (stop.Limit n) s a b k = record { gains = k.gains; is = ap (λ x. chain x f) k.is; heard = k.heard }
-  meets_stop x f stop.ReadFailed s a b k = part_chain x f a b k
-  meets_stop x f stop.TellFailed s a b k = part_chain x f a b k
+  meets_stop x f stop.ReadFailed s a b k = first_chain x f a b k
+  meets_stop x f stop.TellFailed s a b k = cut_chain x f a b k
   meets_stop x f stop.NoMemory s a b k = part_chain x f a b k
 
   -- nothing was told yet
@@ -79,6 +106,9 @@ module _ {T : Type 0} (hear part : T → Record → T → Type 0) where
   -- one record is told
   pub meets_told : (row : Record) (s : State) (a b : T) → hear a row b → Meets hear part (tell row s) (Ok tt) s a b
   meets_told row s a b h = record { gains = record { records = row ∷ [] }; is = refl; heard = (b, h, refl) }
+
+  pub cut_told : (row : Record) (s : State) (a b : T) → part a row b → MeetsCut hear part (tell row s) a b
+  cut_told row s a b h = record { rows = []; last = row; more = []; is = refl; heard = (a, refl, h) }
 
   pub part_told : (row : Record) (s : State) (a b : T) → part a row b → MeetsPart hear part (tell row s) a b
   part_told row s a b h = record { rows = []; last = Some row; more = []; is = refl; heard = (a, refl, h) }

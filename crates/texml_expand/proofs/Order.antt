@@ -2,7 +2,6 @@
 use Rattle.std.proofs.Common.{Option, Some, None, ◌≡◌, ◌+◌, ◌-◌, ◌≤◌, ℕ, zero, suc, refl, sym, ap, ◌∙◌, subst, arith, add-suc, add-zero}
 use Rattle.texml_expand.specs.State.{State, Gains, Answer, Done, Ended, Unfinished, Reading, after, chain, IsDecided}
 use Rattle.texml_token.specs.Token.{Token}
-use Rattle.texml_scope.specs.Texts.{Meaning}
 use Rattle.texml_expand.specs.Expand.{Calls, Expandable, Body, Front, Nothing, Plain, Expands, front, meaning_of, expandable, expand, expand_as, expand_token, fetch_front, fetch_by, step, level, fetches, expands, expands_token}
 
 -- b is what a is, once a is decided

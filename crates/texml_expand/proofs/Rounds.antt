@@ -1,12 +1,11 @@
 -- Expanding and fetching, step by step.
-use Rattle.std.proofs.Common.{◌≡◌, ◌+◌, ◌-◌, ◌≤◌, ◌<◌, ℕ, List, Option, Some, None, Result, Ok, Err, refl, sym, ap, ◌∙◌, subst, arith}
-use Rattle.std.specs.Result.{OnOk}
+use Rattle.std.proofs.Common.{◌≡◌, ◌-◌, ◌≤◌, ◌<◌, ℕ, List, Option, Some, None, Result, Ok, Err, refl, sym, subst, arith}
 use Rattle.texml_token.specs.Token.{Token}
 use Rattle.texml_watch.specs.declared.record.Record.{Record}
 use Rattle.texml_expand.specs.declared.stop.Stop.{Stop}
 use Rattle.texml_expand.specs.declared.stop.Stop.TheVariants as stop
-use Rattle.texml_expand.specs.State.{State, Answer, give}
-use Rattle.texml_expand.specs.Expand.{Expandable, Body, Front, Nothing, Plain, Expands, front, begin, finish, meaning_of, expandable, expand, expand_token, fetch_front, fetch_by, level, fetches, expands, expands_token}
+use Rattle.texml_expand.specs.State.{State, give}
+use Rattle.texml_expand.specs.Expand.{Expandable, Body, Front, Nothing, Plain, Expands, front, begin, finish, meaning_of, expandable, expand, expand_token, fetch_front, level, fetches, expands, expands_token}
 use Rattle.texml_expand.specs.Held.{Held, state_of, Kept}
 use Rattle.texml_expand.specs.Contract.{Silent, Lower, Begins, Stops, outside}
 use Rattle.texml_expand.specs.Hearing.{Meets, Follows}

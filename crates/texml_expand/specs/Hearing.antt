@@ -1,11 +1,11 @@
 -- What a call of the engine does where it may tell of expansions, by a definition's answer.
-use Rattle.std.specs.Prelude.{◌≡◌, ℕ, Bool, true, false, List, ◌++◌, Option, Some, None, Result, Ok, Err}
+use Rattle.std.specs.Prelude.{◌≡◌, ℕ, Bool, true, false, List, ◌∷◌, ◌++◌, Option, Some, None, Result, Ok, Err}
 use Rattle.std.specs.Option.{option_to_list}
 use Rattle.texml_watch.specs.declared.record.Record.{Record}
 use Rattle.texml_watch.specs.Telling.{AllHeard}
 use Rattle.texml_expand.specs.declared.stop.Stop.{Stop}
 use Rattle.texml_expand.specs.declared.stop.Stop.TheVariants as stop
-use Rattle.texml_expand.specs.State.{State, End, Tex, Limit, Gains, Answer, Done, Ended, IsDecided, added}
+use Rattle.texml_expand.specs.State.{State, End, Tex, Limit, Gains, Answer, Done, Ended, added}
 use Rattle.texml_expand.specs.Contract.{Gives}
 
 -- who wants records hears one, and who wants none stays as they were
@@ -42,7 +42,22 @@ module _ {T : Type 0} (hear part : T → Record → T → Type 0) where
     pub is : answer ≡ Ended end gains
     pub heard : AllHeard hear a gains.records b
 
-  -- the first of the records that the answer adds were heard, the last of them perhaps in part
+  -- the first of the records that the answer adds were heard
+  pub record MeetsFirst {A : Type 0} (answer : Answer A) (a b : T) : Type 0 where
+    pub rows : List Record
+    pub more : List Record
+    pub is : (added answer).records ≡ rows ++ more
+    pub heard : AllHeard hear a rows b
+
+  -- and the next one in part
+  pub record MeetsCut {A : Type 0} (answer : Answer A) (a b : T) : Type 0 where
+    pub rows : List Record
+    pub last : Record
+    pub more : List Record
+    pub is : (added answer).records ≡ rows ++ last ∷ more
+    pub heard : HeardLast rows (Some last) a b
+
+  -- the one or the other
   pub record MeetsPart {A : Type 0} (answer : Answer A) (a b : T) : Type 0 where
     pub rows : List Record
     pub last : Option Record
@@ -50,13 +65,14 @@ module _ {T : Type 0} (hear part : T → Record → T → Type 0) where
     pub is : (added answer).records ≡ rows ++ option_to_list last ++ more
     pub heard : HeardLast rows last a b
 
-  -- what a result says of the answer; the state is the one behind it
+  -- what a result says of the answer; the state is the one behind it. Telling fails at a record that is heard in part, and
+  -- memory is short there or elsewhere
   abbrev pub Meets : {A : Type 0} → Answer A → Result A Stop → State → T → T → Type 0
   Meets answer (Ok v) s a b = MeetsDone answer v s a b
   Meets answer (Err (stop.Tex f)) s a b = MeetsEnd answer (Tex f) a b
   Meets answer (Err (stop.Limit n)) s a b = MeetsEnd answer (Limit n) a b
-  Meets answer (Err stop.ReadFailed) s a b = MeetsPart answer a b
-  Meets answer (Err stop.TellFailed) s a b = MeetsPart answer a b
+  Meets answer (Err stop.ReadFailed) s a b = MeetsFirst answer a b
+  Meets answer (Err stop.TellFailed) s a b = MeetsCut answer a b
   Meets answer (Err stop.NoMemory) s a b = MeetsPart answer a b
 
   -- by the answer that a definition gives

@@ -70,36 +70,42 @@ fn a_stopped_engine_answers_its_stop(rt: HostRuntime) -> Result<(), Fail> {
     Ok(())
 }
 
-// An engine for which `~` means a macro with the body `x`.
+// An engine with nothing to read, for which `~` means a macro without a body.
 fn with_macro(alloc: Global, limit: u64) -> Result<Engine, Fail>
     ensures { IfOk result (λ e. (e.stop ≡ None) × Sound e × IsSome (expandable (meaning_of (state_of e).world (Active 126)))) }
 {
     let names = Names::new(alloc);
     let _given = names.given();
-    let mut body = Tokens::new(alloc);
-    body.push(Token::Char(120, 11))?;
+    let body = Tokens::new(alloc);
     let mut scope = Scope::new(alloc);
     let value = Value::Means(Meaning::Macro(Macro { body }));
     scope.set(Key::Active(126), value, &mut Steps::new())?;
-    let main = Bytes::from_slice(alloc, b"main.tex")?;
+    let main = Bytes::new(alloc);
     Ok(Engine::new(alloc, scope, names, main, limit))
 }
 
 #[test]
-fn tokens_are_expanded(rt: HostRuntime) -> Result<(), Fail> {
+fn a_macro_is_expanded_once(rt: HostRuntime) -> Result<(), Fail> {
     let alloc = rt.alloc();
     let mut files = CalmFiles::new(alloc, 1);
-    let mut engine = with_macro(alloc, 2)?;
+    let mut engine = with_macro(alloc, 1)?;
     engine.expand_once(&mut files, &mut Silent, Token::Active(126))?;
     assert_eq!(rt; engine.begun(), 1);
-    let letter = engine.fetch(&mut files, &mut Silent)?;
-    assert_eq!(rt; letter, Some(Token::Char(120, 11)));
+    Ok(())
+}
+
+#[test]
+fn macros_are_expanded_up_to_the_limit(rt: HostRuntime) -> Result<(), Fail> {
+    let alloc = rt.alloc();
+    let mut files = CalmFiles::new(alloc, 1);
+    let mut engine = with_macro(alloc, 1)?;
+    engine.back(Token::Char(97, 11), false)?;
     engine.back(Token::Active(126), false)?;
     let letter = engine.fetch(&mut files, &mut Silent)?;
-    assert_eq!(rt; letter, Some(Token::Char(120, 11)));
+    assert_eq!(rt; letter, Some(Token::Char(97, 11)));
     engine.back(Token::Active(126), false)?;
     match engine.fetch(&mut files, &mut Silent) {
-        Err(Stop::Limit(limit)) => assert_eq!(rt; limit, 2),
+        Err(Stop::Limit(limit)) => assert_eq!(rt; limit, 1),
         _ => assert!(rt; false),
     }
     Ok(())

@@ -1,8 +1,10 @@
-//! The engine that reads and, once that is built, expands tokens.
+//! The engine that reads and expands tokens.
 //!
 //! An engine holds what names mean and what is still to be read. It stands for a state of the definitions in specs/, in
 //! which a name is its text. The contract in a sentence: each call takes it from a state to the state and the value that a
-//! definition gives, or stops it for a reason that the contract names, and a stopped engine answers its stop from then on.
+//! definition gives and tells of exactly the expansions that the definition adds, or stops it for a reason that the contract
+//! names, and a stopped engine answers its stop from then on. That the definitions have one answer in each state is a law
+//! of its own (laws.rt).
 //! It stands on texml_base, texml_token, texml_text, texml_mouth, texml_scope and texml_watch.
 #![tactic(auto)]
 

@@ -11,14 +11,14 @@ pub returns-in_err-begin-clause-follows : goal.returns-in_err-begin-clause-follo
 returns-in_err-begin-clause-follows g c =
     let s = c.args.self.now in
     let h = expand_stops (hears g.T.Teller.wanting g.T.Teller.heard) (hears_part g.T.Teller.wanting g.T.Teller.part) (token_at s.names c.args.token) (tokens_at s.names c.args.body.now)
-        c.in_err-begin.field-0.0 (state_of s) (state_of c.begin.new.self) c.args.tell.now c.in_err-begin.ensures.begins in
+    c.in_err-begin.field-0.0 (state_of s) (state_of c.begin.new.self) c.args.tell.now c.in_err-begin.ensures.begins in
     search (rules, h)
 
 pub returns-clause-follows : goal.returns-clause-follows
 returns-clause-follows g c =
     let s = c.args.self.now in
     let P : Table → Type 0 = λ names. Meets (hears g.T.Teller.wanting g.T.Teller.heard) (hears_part g.T.Teller.wanting g.T.Teller.part)
-        (finish (token_at names c.args.token) (tokens_at names c.args.body.now) (state_of c.begin.new.self)) c.finish.result (state_of c.finish.new.self) c.args.tell.now c.finish.new.tell in
+    (finish (token_at names c.args.token) (tokens_at names c.args.body.now) (state_of c.begin.new.self)) c.finish.result (state_of c.finish.new.self) c.args.tell.now c.finish.new.tell in
     expand_ends (hears g.T.Teller.wanting g.T.Teller.heard) (hears_part g.T.Teller.wanting g.T.Teller.part) (token_at s.names c.args.token) (tokens_at s.names c.args.body.now)
     c.finish.result (state_of s) (state_of c.begin.new.self) (state_of c.finish.new.self) c.args.tell.now c.finish.new.tell c.in_ok-begin.ensures.begins
     (subst P (ap (λ h. h.names) c.in_ok-begin.ensures.is) c.finish.ensures.finishes)

@@ -17,5 +17,5 @@ returns-in-Ok-clause-finishes g c =
     let h = the_view c.self.inside in
     let e = rw c.as_slice.ensures at c.in-Ok.ensures.ok in
     let P : State → Type 0 = λ s. Meets (hears g.T.Teller.wanting g.T.Teller.heard) (hears_part g.T.Teller.wanting g.T.Teller.part)
-        (tell (record_of (token_at h.names c.args.token) (tokens_at h.names c.args.list.now)) s) c.tell_of.result (state_of c.tell_of.new.self) c.args.tell.now c.tell_of.new.tell in
+    (tell (record_of (token_at h.names c.args.token) (tokens_at h.names c.args.list.now)) s) c.tell_of.result (state_of c.tell_of.new.self) c.args.tell.now c.tell_of.new.tell in
     rw (← c.self.view_is) (subst P (state_finished h c.args.list.now c.push_tokens.new.self e) c.tell_of.ensures.told)

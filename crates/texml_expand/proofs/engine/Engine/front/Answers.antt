@@ -1,4 +1,3 @@
-use Rattle.std.proofs.Common.{sym, ap, ◌∙◌}
 use Rattle.texml_expand.specs.Next.{read_at}
 use Rattle.texml_expand.specs.Held.{state_of}
 use Rattle.texml_expand.proofs.Fronts.{front_judged, judged_lower}

@@ -1,7 +1,7 @@
 use Rattle.std.proofs.Common.{sym, subst, ◌∙◌}
 use Rattle.texml_watch.specs.declared.record.Record.{Record}
 use Rattle.texml_expand.specs.Hearing.{hears, hears_part}
-use Rattle.texml_expand.proofs.Meeting.{meets_told, part_told, part_untold, hears_not, hears_one, hears_some}
+use Rattle.texml_expand.proofs.Meeting.{meets_told, cut_told, part_told, part_untold, hears_not, hears_one, hears_some}
 use Rattle.texml_expand.proofs.engine.Engine.tell_of.Goals as goal
 
 pub returns-then-not-wants-clause-told : goal.returns-then-not-wants-clause-told
@@ -22,7 +22,7 @@ returns-in-Ok-tell-clause-told g c =
 pub returns-in-Err-Failed-clause-told : goal.returns-in-Err-Failed-clause-told
 returns-in-Err-Failed-clause-told g c =
     let P : Record → Type 0 = λ news. g.T.Teller.part c.args.tell.now news c.tell.new.self in
-    part_told (hears g.T.Teller.wanting g.T.Teller.heard) (hears_part g.T.Teller.wanting g.T.Teller.part) _ _ _ _
+    cut_told (hears g.T.Teller.wanting g.T.Teller.heard) (hears_part g.T.Teller.wanting g.T.Teller.part) _ _ _ _
     (hears_some g.T.Teller.wanting g.T.Teller.part _ c.args.tell.now c.tell.new.self (sym c.wants.ensures ∙ c.if-not-wants.false) (subst P c.in-Ok.ensures c.in-Err-Failed.ensures.told))
 
 pub returns-clause-told : goal.returns-clause-told
