@@ -1,5 +1,5 @@
 -- How a command and a run may end.
-use Rattle.std.proofs.Common.{◌≡◌, ◌≢◌, ℕ, List, [], ◌∷◌, ◌++◌, IsTrue, Option, Some, None, Result, Ok, Err, refl, sym, ap, ◌∙◌, subst, arith, append-nil, append_assoc}
+use Rattle.std.proofs.Common.{length, length-append, codes, ◌≡◌, ◌≢◌, ℕ, List, [], ◌∷◌, ◌++◌, IsTrue, Option, Some, None, Result, Ok, Err, refl, sym, ap, ◌∙◌, subst, arith, append-nil, append_assoc}
 use Rattle.std.specs.Option.{option_to_list}
 use Rattle.texml_base.specs.Outside.{Shelf, Ink, inked}
 use Rattle.texml_base.specs.Rising.{Rose}
@@ -7,13 +7,13 @@ use Rattle.texml_base.proofs.Taking.{inked-nil}
 use Rattle.texml_watch.specs.declared.record.Record.{Record}
 use Rattle.texml_watch.specs.Trace.{trace, trace_line}
 use Rattle.texml_watch.specs.Writing.{Lent, Wrote, WrotePart as WroteLine}
-use Rattle.texml_watch.proofs.Hearing.{Wrote-trace, Wrote-within, Wrote-front, WroteWithin-front}
+use Rattle.texml_watch.proofs.Hearing.{trace-append, Wrote-trace, Wrote-within, Wrote-front, WroteWithin-front}
 use Rattle.texml_expand.specs.declared.stop.Stop.{Stop}
 use Rattle.texml_expand.specs.declared.stop.Stop.TheVariants as stop
 use Rattle.texml_expand.specs.State.{State, End, Answer, Tex, Limit, Done, Ended, added}
 use Rattle.texml_expand.specs.Held.{Held, state_of}
 use Rattle.texml_expand.specs.Contract.{Gives, Because, outside}
-use Rattle.texml_expand.specs.Hearing.{HeardLast, MeetsEnd, MeetsPart, Follows}
+use Rattle.texml_expand.specs.Hearing.{HeardLast, MeetsEnd, MeetsFirst, MeetsCut, MeetsPart, Follows}
 use Rattle.texml_top.specs.Request.{Request, asked}
 use Rattle.texml_top.specs.declared.request.Command.{Command}
 use Rattle.texml_top.specs.declared.request.Command.TheVariants.{Convert, Expand}
@@ -25,7 +25,7 @@ use Rattle.texml_top.specs.Run.{stopped, EndsAs, WrotePart, MayEnd, HasRunCause,
 use Rattle.texml_top.specs.declared.material.Material.{Material}
 use Rattle.texml_top.specs.declared.status.Status.{Status}
 use Rattle.texml_top.specs.declared.status.Status.TheVariants as status
-use Rattle.texml_top.proofs.Outcomes.{outcome_by, is_by, expand_bytes, expand_records, is_from, of_any, from_any, of_fault, of_state}
+use Rattle.texml_top.proofs.Outcomes.{with_weaker, outcome_by, is_by, expand_bytes, expand_records, is_from, of_any, from_any, of_fault, of_state}
 
 -- nothing was written
 pub none_written : (bytes : List ℕ) (ink : Ink) → WrotePart bytes ink ink
@@ -45,6 +45,18 @@ no_lines_by Expand all ink = no_lines all ink
 pub page_some : (material : List Material) → page material ≢ []
 page_some material = λ e. cc
 
+-- a trace of one record at least has bytes
+trace_some : (rows more : List Record) (last : Record) → trace (rows ++ last ∷ [] ++ more) ≢ []
+trace_some rows more last = λ none.
+    let front = trace-append (rows ++ last ∷ []) more in
+    let line = trace-append rows (last ∷ []) in
+    let short = ap length none in
+    let a = ap length front ∙ length-append (trace (rows ++ last ∷ [])) (trace more) in
+    let b = ap length line ∙ length-append (trace rows) (trace (last ∷ [])) in
+    let c = length-append (trace_line last) [] in
+    let d = length-append (last.token ++ codes " -> " ++ last.put) (10 ∷ []) in
+    absurd (omega (arith, short, a, b, c, d))
+
 -- convert, by what digestion answers to whom nobody is told
 module _ {T : Type 0} (hear part : T → Record → T → Type 0) where
   pub convert_done : (v : List Material) (s new : State) (a b : T) (Has : Outcome → Type 0) → Follows hear part (digests [] s) (Ok v) new a b
@@ -59,12 +71,13 @@ module _ {T : Type 0} (hear part : T → Record → T → Type 0) where
       let all : Outcome = record { status = status_of e; bytes = []; records = m.gains.records } in
       record { all = all; is = is_from Convert s answer (Ended e m.gains) all g m.is refl; has = (refl, sym (inked-nil ink)) }
 
-  pub convert_stops : (e : Stop) (s new : State) (a b : T) (ink : Ink) → Follows hear part (digests [] s) (Err e) new a b → FromState Convert s (λ all. MayEnd (stopped e) all ink ink)
-  convert_stops (stop.Tex f) s new a b ink g = convert_ends (Tex f) s a b ink g.answer g.given g.meets
-  convert_stops (stop.Limit n) s new a b ink g = convert_ends (Limit n) s a b ink g.answer g.given g.meets
-  convert_stops stop.ReadFailed s new a b ink g = from_any Convert s _ (λ all. none_written all.bytes ink)
-  convert_stops stop.TellFailed s new a b ink g = from_any Convert s _ (λ all. none_written all.bytes ink)
-  convert_stops stop.NoMemory s new a b ink g = from_any Convert s _ (λ all. none_written all.bytes ink)
+  pub convert_stops : (e : Stop) (s new : State) (a b : T) (reads reads' : ℕ) (ink : Ink) → Follows hear part (digests [] s) (Err e) new a b
+      → Because {A = List Material} (Err e) (outside reads 0) (outside reads' 0) → FromState Convert s (λ all. MayEnd (stopped e) all ink ink)
+  convert_stops (stop.Tex f) s new a b reads reads' ink g why = convert_ends (Tex f) s a b ink g.answer g.given g.meets
+  convert_stops (stop.Limit n) s new a b reads reads' ink g why = convert_ends (Limit n) s a b ink g.answer g.given g.meets
+  convert_stops stop.ReadFailed s new a b reads reads' ink g why = from_any Convert s _ (λ all. none_written all.bytes ink)
+  convert_stops stop.TellFailed s new a b reads reads' ink g why = absurd (omega (arith, why))
+  convert_stops stop.NoMemory s new a b reads reads' ink g why = from_any Convert s _ (λ all. none_written all.bytes ink)
 
 -- nobody is told, so that telling can't fail
 pub silent_page : (e : Stop) (all : Outcome) (reads reads' : ℕ) → Because {A = List Material} (Err e) (outside reads 0) (outside reads' 0) → WritesPage Convert (stopped e) all
@@ -112,24 +125,38 @@ module _ {T : Type 0} (lent : T → Lent) where
   expand_loan (Ok v) s new a b g = (Wrote-trace lent a b g.meets.gains.records g.meets.heard).loan
   expand_loan (Err (stop.Tex f)) s new a b g = (Wrote-trace lent a b g.meets.gains.records g.meets.heard).loan
   expand_loan (Err (stop.Limit n)) s new a b g = (Wrote-trace lent a b g.meets.gains.records g.meets.heard).loan
-  expand_loan (Err stop.ReadFailed) s new a b g = part_loan g.meets.rows g.meets.last a b g.meets.heard
-  expand_loan (Err stop.TellFailed) s new a b g = part_loan g.meets.rows g.meets.last a b g.meets.heard
+  expand_loan (Err stop.ReadFailed) s new a b g = (Wrote-trace lent a b g.meets.rows g.meets.heard).loan
+  expand_loan (Err stop.TellFailed) s new a b g = part_loan g.meets.rows (Some g.meets.last) a b g.meets.heard
   expand_loan (Err stop.NoMemory) s new a b g = part_loan g.meets.rows g.meets.last a b g.meets.heard
 
   -- the outcome, where its trace was written in part
-  expand_part : (s : State) (a b : T) (answer : Answer (List Material)) → Gives (digests [] s) answer → MeetsPart Hears HearsPart answer a b → FromState Expand s (λ all. WrotePart all.bytes (lent a).ink (lent b).ink)
-  expand_part s a b answer g m =
+  trace_part : (s : State) (a b : T) (answer : Answer (List Material)) (rows more : List Record) (last : Option Record) → Gives (digests [] s) answer
+      → (added answer).records ≡ rows ++ option_to_list last ++ more → HeardLast Hears HearsPart rows last a b → FromState Expand s (λ all. (all.bytes ≡ trace (rows ++ option_to_list last ++ more)) × WrotePart all.bytes (lent a).ink (lent b).ink)
+  trace_part s a b answer rows more last g is heard =
+      let bytes = expand_bytes answer g.decided ∙ ap trace is in
       record {
         all = outcome_by Expand answer;
         is = is_from Expand s answer answer _ g refl (is_by Expand answer g.decided);
-        has = subst (λ bytes. WrotePart bytes (lent a).ink (lent b).ink) (sym (expand_bytes answer g.decided ∙ ap trace m.is)) (part_written m.rows m.more m.last a b m.heard);
+        has = (bytes, subst (λ bytes. WrotePart bytes (lent a).ink (lent b).ink) (sym bytes) (part_written rows more last a b heard));
       }
+
+  expand_part : (s : State) (a b : T) (answer : Answer (List Material)) → Gives (digests [] s) answer → MeetsPart Hears HearsPart answer a b → FromState Expand s (λ all. WrotePart all.bytes (lent a).ink (lent b).ink)
+  expand_part s a b answer g m = with_weaker _ (λ all h. h.1) (trace_part s a b answer m.rows m.more m.last g m.is m.heard)
+
+  expand_first : (s : State) (a b : T) (answer : Answer (List Material)) → Gives (digests [] s) answer → MeetsFirst Hears HearsPart answer a b → FromState Expand s (λ all. WrotePart all.bytes (lent a).ink (lent b).ink)
+  expand_first s a b answer g m =
+      with_weaker _ (λ all h. h.1) (trace_part s a b answer m.rows m.more None g (m.is ∙ ap (λ l. l ++ m.more) (sym (append-nil m.rows))) m.heard)
+
+  expand_cut : (s : State) (a b : T) (answer : Answer (List Material)) → Gives (digests [] s) answer → MeetsCut Hears HearsPart answer a b
+      → FromState Expand s (λ all. (all.bytes ≢ []) × WrotePart all.bytes (lent a).ink (lent b).ink)
+  expand_cut s a b answer g m =
+      with_weaker _ (λ all h. (λ none. trace_some m.rows m.more m.last (sym h.0 ∙ none), h.1)) (trace_part s a b answer m.rows m.more (Some m.last) g (m.is ∙ sym (append_assoc m.rows (m.last ∷ []) m.more)) m.heard)
 
   pub expand_stops : (e : Stop) (s new : State) (a b : T) → Follows Hears HearsPart (digests [] s) (Err e) new a b → FromState Expand s (λ all. MayEnd (stopped e) all (lent a).ink (lent b).ink)
   expand_stops (stop.Tex f) s new a b g = expand_ends (Tex f) s a b g.answer g.given g.meets
   expand_stops (stop.Limit n) s new a b g = expand_ends (Limit n) s a b g.answer g.given g.meets
-  expand_stops stop.ReadFailed s new a b g = expand_part s a b g.answer g.given g.meets
-  expand_stops stop.TellFailed s new a b g = expand_part s a b g.answer g.given g.meets
+  expand_stops stop.ReadFailed s new a b g = expand_first s a b g.answer g.given g.meets
+  expand_stops stop.TellFailed s new a b g = expand_cut s a b g.answer g.given g.meets
   expand_stops stop.NoMemory s new a b g = expand_part s a b g.answer g.given g.meets
 
   -- whole lines
@@ -157,8 +184,10 @@ module _ {T : Type 0} (lent : T → Lent) where
       lines_all s g.answer g.meets.gains.records [] a b g.given (no_more _ _ (ap (λ x. (added x).records) g.meets.is)) (Wrote-trace lent a b g.meets.gains.records g.meets.heard).ink
   expand_lines (Err (stop.Limit n)) s new a b g calm =
       lines_all s g.answer g.meets.gains.records [] a b g.given (no_more _ _ (ap (λ x. (added x).records) g.meets.is)) (Wrote-trace lent a b g.meets.gains.records g.meets.heard).ink
-  expand_lines (Err stop.ReadFailed) s new a b g calm = lines_part s a b g.answer g.given g.meets calm
-  expand_lines (Err stop.TellFailed) s new a b g calm = lines_part s a b g.answer g.given g.meets calm
+  expand_lines (Err stop.ReadFailed) s new a b g calm =
+      lines_all s g.answer g.meets.rows g.meets.more a b g.given g.meets.is (Wrote-trace lent a b g.meets.rows g.meets.heard).ink
+  expand_lines (Err stop.TellFailed) s new a b g calm =
+      lines_all s g.answer g.meets.rows (g.meets.last ∷ g.meets.more) a b g.given g.meets.is (part_whole g.meets.rows (Some g.meets.last) a b g.meets.heard calm)
   expand_lines (Err stop.NoMemory) s new a b g calm = lines_part s a b g.answer g.given g.meets calm
 
 -- the cause of a stop is one of the run

@@ -35,7 +35,7 @@ MayEnd (Usage k) all old new = EndsAs (Usage k) all old new
 MayEnd (Tex f) all old new = EndsAs (Tex f) all old new
 MayEnd (Limit n) all old new = EndsAs (Limit n) all old new
 MayEnd ReadFault all old new = WrotePart all.bytes old new
-MayEnd WriteFault all old new = WrotePart all.bytes old new
+MayEnd WriteFault all old new = (all.bytes ≢ []) × WrotePart all.bytes old new
 MayEnd NoMemory all old new = WrotePart all.bytes old new
 
 -- a failure is blamed only on what failed: its count of faults rose
@@ -60,9 +60,9 @@ abbrev pub LateAsked : Result Request ℕ → Status → Ink → Ink → Type 0
 LateAsked (Ok request) status old new = WritesLate request.command status old new
 LateAsked (Err which) status old new = new ≡ old
 
--- convert begins to write only what has no fault: a page, which is never empty
+-- convert begins to write only where its outcome is a page
 abbrev pub WritesPage : Command → Status → Outcome → Type 0
-WritesPage Convert WriteFault all = (all.status ≡ Done) × (all.bytes ≢ [])
+WritesPage Convert WriteFault all = all.status ≡ Done
 WritesPage Convert _ all = Unit {0}
 WritesPage Expand _ all = Unit {0}
 

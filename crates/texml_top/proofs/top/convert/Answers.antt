@@ -6,7 +6,7 @@ use Rattle.texml_top.proofs.Ending.{none_written, page_some, convert_done, conve
 use Rattle.texml_top.proofs.top.convert.Goals as goal
 
 pub returns-in-Err-clause-meets : goal.returns-in-Err-clause-meets
-returns-in-Err-clause-meets g c = rw c.from.ensures (convert_stops _ _ c.in-Err.stop _ _ _ _ (g.S.Sink.ink c.args.out.now) c.in-Err.ensures.follows)
+returns-in-Err-clause-meets g c = rw c.from.ensures (convert_stops _ _ c.in-Err.stop _ _ _ _ _ _ (g.S.Sink.ink c.args.out.now) c.in-Err.ensures.follows c.in-Err.ensures.stops.because)
 
 pub returns-in-Err-clause-page : goal.returns-in-Err-clause-page
 returns-in-Err-clause-page g c = rw c.from.ensures (from_any _ _ _ (λ all. silent_page c.in-Err.stop all _ _ c.in-Err.ensures.stops.because))
@@ -31,8 +31,8 @@ returns-clause-meets g c =
     let bytes = c.as_bytes.ensures.value ∙ c.in-Ok-page_of.ensures ∙ ap page c.deref.ensures.value in
     let wrote = c.in-Err-write.ensures.written in
     convert_done _ _ c.in-Ok.material.items _ _ _ _ _ c.in-Ok.ensures.follows
-    (λ all done is. (wrote.0, wrote.1 ∙ ap (λ b. inked (g.S.Sink.ink c.args.out.now) (take wrote.0 b)) (bytes ∙ sym is)))
+    (λ all done is. (λ none. page_some c.in-Ok.material.items (sym is ∙ none), (wrote.0, wrote.1 ∙ ap (λ b. inked (g.S.Sink.ink c.args.out.now) (take wrote.0 b)) (bytes ∙ sym is))))
 
 pub returns-clause-page : goal.returns-clause-page
 returns-clause-page g c =
-    convert_done _ _ c.in-Ok.material.items _ _ _ _ _ c.in-Ok.ensures.follows (λ all done is. (done, λ none. page_some c.in-Ok.material.items (sym is ∙ none)))
+    convert_done _ _ c.in-Ok.material.items _ _ _ _ _ c.in-Ok.ensures.follows (λ all done is. done)
