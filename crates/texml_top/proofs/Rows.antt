@@ -1,0 +1,65 @@
+-- Digestion and outcomes, computed on small texts.
+use Rattle.std.proofs.Common.{◌≡◌, ℕ, List, [], ◌∷◌, ◌++◌, Option, Some, None, Result, Ok, Err, refl}
+use Rattle.std.specs.Prelude.{codes}
+use Rattle.texml_token.specs.declared.fault_code.TheConstants.{NO_GROUP}
+use Rattle.texml_watch.specs.declared.record.Record.{Record}
+use Rattle.texml_expand.specs.State.{Answer, Done, Ended, Unfinished, Tex, Limit, fault_at, added}
+use Rattle.texml_top.specs.Digest.{digests}
+use Rattle.texml_top.specs.Request.{asked}
+use Rattle.texml_top.specs.declared.request.Command.TheVariants.{Convert, Expand}
+use Rattle.texml_top.specs.Outcome.{first_state, IsOutcomeFrom, IsOutcome}
+use Rattle.texml_top.specs.declared.material.Material.{Material}
+use Rattle.texml_top.specs.declared.material.Material.TheVariants.{Char, Par}
+use Rattle.texml_top.specs.declared.status.Status.TheVariants as status
+
+read : ℕ → List ℕ → ℕ → Answer (List Material)
+read limit text n = digests [] (first_state (codes "f") limit text) n
+
+-- what digestion put into the document
+document : Answer (List Material) → Option (List Material)
+document (Done material s gains) = Some material
+document (Ended e gains) = None
+document (Unfinished gains) = None
+
+-- a macro is defined and expanded; blanks behind a name are skipped
+defined : document (read 9 (codes "\\def\\a{x}\\a") 9) ≡ Some (Char 120 ∷ [])
+unfolding read document lib.Utf8.encode
+defined = refl
+
+-- the old meaning is back behind a group
+undone : document (read 9 (codes "\\def\\a{x}{\\def\\a{y}\\a}\\a") 9) ≡ Some (Char 121 ∷ Char 120 ∷ [])
+unfolding read document lib.Utf8.encode
+undone = refl
+
+-- the end of a line is a space, and a blank line ends a paragraph
+blank_line : document (read 9 (codes "a\n\nb") 9) ≡ Some (Char 97 ∷ Char 32 ∷ Par ∷ Char 98 ∷ Char 32 ∷ [])
+unfolding read document lib.Utf8.encode
+blank_line = refl
+
+-- the end of a group that wasn't begun
+no_group : read 9 (codes "}") 9 ≡ Ended (Tex (fault_at NO_GROUP [] (record { file = codes "f"; line = 0 }))) (record { records = [] })
+unfolding read lib.Utf8.encode
+no_group = refl
+
+-- the page of a macro
+page_of_macro : IsOutcomeFrom Convert (first_state (codes "f") 9 (codes "\\def\\a{x}\\a")) (record {
+  status = status.Done;
+  bytes = codes "<!DOCTYPE html>\n<html><head><meta charset=\"utf-8\"><title>untitled</title></head><body><main id=\"x0\"><p>x</p></main></body></html>\n";
+  records = record { token = codes "\\a"; put = codes "x"; file = [] } ∷ [];
+})
+unfolding read lib.Utf8.encode
+page_of_macro = record { answer = read 9 (codes "\\def\\a{x}\\a") 9; given = record { depth = 9; is = refl; decided = tt }; is = refl }
+
+-- the trace of a macro that gives itself back, up to the limit
+trace_to_limit : IsOutcomeFrom Expand (first_state (codes "f") 2 (codes "\\def\\x{\\x}\\x")) (record {
+  status = status.Limit 2;
+  bytes = codes "\\x -> \\x \n\\x -> \\x \n";
+  records = record { token = codes "\\x"; put = codes "\\x "; file = [] } ∷ record { token = codes "\\x"; put = codes "\\x "; file = [] } ∷ [];
+})
+unfolding read lib.Utf8.encode
+trace_to_limit = record { answer = read 2 (codes "\\def\\x{\\x}\\x") 9; given = record { depth = 9; is = refl; decided = tt }; is = refl }
+
+-- words that are no command line: the second one is missing
+too_few : (contents : List ℕ → Option (List ℕ)) → IsOutcome (codes "convert" ∷ []) contents (record { status = status.Usage 2; bytes = []; records = [] })
+unfolding lib.Utf8.encode
+too_few contents = refl
