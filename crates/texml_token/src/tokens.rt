@@ -1,6 +1,6 @@
 //! Tokens, and lists of them whose parts are shared.
 
-ghost use Rattle.std.specs.Prelude.{◌≡◌, [], ◌∷◌, ◌++◌, OnOk, OnErr};
+ghost use Rattle.std.specs.Prelude.{◌≡◌, ◌↔◌, IsTrue, [], ◌∷◌, ◌++◌, OnOk, OnErr};
 
 use std::alloc::{AllocError, Global};
 use std::default::MadeWith;
@@ -120,4 +120,11 @@ impl Eq for Tokens {
     ghost use Rattle.texml_token.specs.contracts.tokens.TokenEq.TheImpl.Laws.{laws-law};
 
     ghost laws = { lists_equiv laws-law };
+}
+
+/// Whether two lists of tokens are the same.
+pub fn same_tokens(a: &Tokens, b: &Tokens) -> bool
+    ensures { IsTrue result ↔ (a.now ≡ b.now) }
+{
+    *a == *b
 }
