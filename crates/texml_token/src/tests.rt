@@ -127,8 +127,7 @@ fn lists_are_shown(rt: HostRuntime) -> Result<(), Fail> {
 #[test]
 fn copies_stay_as_they_are(rt: HostRuntime) -> Result<(), Fail> {
     let alloc = rt.alloc();
-    let mut list = Tokens::new(alloc);
-    list.push(Token::Active(126))?;
+    let mut list = Tokens::from_slice(alloc, &[Token::Active(126)])?;
     let copy = list.clone()?;
     list.push(Token::Named(Name(0)))?;
     assert_eq!(rt; copy.as_slice(), [Token::Active(126)].as_slice());
