@@ -1,2 +1,6 @@
 pub mod Signed
 pub mod Quotients
+pub mod Places
+pub mod Putting
+pub mod Printed
+pub mod ReadsBack

@@ -1,8 +1,8 @@
 //! Decimals and 65536ths.
 
-ghost use Rattle.std.specs.Prelude.{◌≡◌, ◌<◌, ◌^◌, ◌*◌, ◌/◌, length};
+ghost use Rattle.std.specs.Prelude.{◌≡◌, ◌≤◌, ◌<◌, ◌^◌, ◌*◌, ◌/◌, length, true};
 ghost use Rattle.std.specs.Int.Digits.{number_from_digits};
-ghost use Rattle.texml_fixed.specs.Decimals.{nearest, fraction};
+ghost use Rattle.texml_fixed.specs.Decimals.{nearest, fraction, to_decimals, places, reads_back};
 
 // How many decimals count.
 const COUNTED: usize = 17;
@@ -35,4 +35,48 @@ fn halves(digits: &[u8]) -> u64
         [] => 0,
         [digit, behind @ ..] => (halves(behind) + 131072 * u64::from(*digit)) / 10,
     }
+}
+
+/// So many 65536ths, in units of this decimal place: to the nearest one.
+pub(crate) fn to_decimals(place: usize, fraction: u32) -> u32
+    requires place { place ≤ 5 }
+    requires fraction { fraction < 65536 }
+    ensures { result ≡ to_decimals place fraction }
+{
+    nearest(scale(place) * u64::from(fraction), 65536) as u32
+}
+
+/// The fewest decimals that read back as so many 65536ths, but at least one.
+pub(crate) fn places(fraction: u32) -> usize
+    requires { fraction < 65536 }
+    ensures value { result ≡ places fraction }
+    ensures bound { result ≤ 5 }
+    ensures exact { reads_back fraction result ≡ true }
+{
+    for place in 1..5 {
+        if reads_back(fraction, place) {
+            return place;
+        }
+    }
+    5
+}
+
+// So many decimals of a number of 65536ths read back as it.
+fn reads_back(fraction: u32, place: usize) -> bool
+    requires fraction { fraction < 65536 }
+    requires place { place ≤ 5 }
+    ensures { result ≡ reads_back fraction place }
+{
+    let decimals = to_decimals(place, fraction);
+    nearest(65536 * u64::from(decimals), scale(place)) == u64::from(fraction)
+}
+
+// How many units of a decimal place are a whole one.
+fn scale(place: usize) -> u64
+    requires { place ≤ 5 }
+    ensures value { result ≡ 10 ^ place }
+    ensures some { 0 < result }
+    ensures bound { result ≤ 100000 }
+{
+    10_u64.pow(place as u32)
 }

@@ -8,6 +8,7 @@
 
 mod arithmetic;
 mod decimals;
+mod digits;
 mod fault;
 mod glue;
 mod scaled;
