@@ -4,3 +4,4 @@ pub mod Places
 pub mod Putting
 pub mod Printed
 pub mod ReadsBack
+pub mod Rows

@@ -1,5 +1,5 @@
 -- The first of a few numbers that passes a test.
-use Rattle.std.proofs.Common.{◌≡◌, ◌≤◌, ◌<◌, ℕ, zero, suc, Bool, true, false, if◌then◌else◌, arith, lit<, lit≤, refl}
+use Rattle.std.proofs.Common.{◌≡◌, ◌≤◌, ◌<◌, ℕ, zero, suc, Bool, true, false, if◌then◌else◌, arith, lit<, lit≤}
 
 abbrev pub first_of : (ℕ → Bool) → ℕ
 first_of p = if p 1 then 1 else if p 2 then 2 else if p 3 then 3 else if p 4 then 4 else 5

@@ -1,7 +1,6 @@
 -- What is printed, part by part.
-use Rattle.std.proofs.Common.{◌≡◌, ◌∙◌, sym, ap, ℕ, zero, suc, ℤ, pos, negsuc, Bool, true, false, ◌+◌, ◌/◌, ◌%◌, ◌<◌, ◌≤◌, ◌^◌, List, [], ◌∷◌, ◌++◌, length, map, arith, append_assoc, unsigned_abs, int_lt, nat_lt, lit<, refl}
+use Rattle.std.proofs.Common.{◌≡◌, ap, ℕ, suc, ℤ, pos, negsuc, Bool, true, false, ◌+◌, ◌/◌, ◌%◌, ◌<◌, ◌≤◌, ◌^◌, List, [], ◌∷◌, ◌++◌, length, map, arith, append_assoc, unsigned_abs, int_lt, nat_lt, lit<}
 use Rattle.std.proofs.lemmas.Fmt.{length-decimal-le}
-use Rattle.std.proofs.lemmas.Nat.{div_below}
 use Rattle.std.specs.Fmt.{decimal, sign_text}
 use Rattle.texml_fixed.specs.Printing.{printed, decimals}
 

@@ -1,7 +1,7 @@
 -- Bytes that are put one behind the other.
 use Rattle.std.proofs.Common.{◌≡◌, ◌∙◌, sym, ap, subst, ℕ, zero, suc, ◌+◌, ◌-◌, ◌<◌, ◌≤◌, ◌/◌, ◌%◌, ◌^◌, List, [], ◌∷◌, ◌++◌, length, take, drop, set, map, arith, append_assoc, append-nil, refl}
-use Rattle.std.proofs.lemmas.List.{take_more_set, drop-set-lt, drop-drop, length-append, length-map, map-append}
-use Rattle.std.proofs.lemmas.Fmt.{decimal_step, decimal_digit, length-decimal-le}
+use Rattle.std.proofs.lemmas.List.{take_more_set, drop-set-lt, drop-drop, length-append, map-append}
+use Rattle.std.proofs.lemmas.Fmt.{decimal_step}
 use Rattle.std.specs.Fmt.{decimal}
 use Rattle.texml_fixed.specs.Decimals.{last_digits}
 use Rattle.texml_fixed.specs.Putting.{Puts}

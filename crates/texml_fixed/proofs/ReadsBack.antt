@@ -1,12 +1,12 @@
 -- What is printed reads back as the same value.
-use Rattle.std.proofs.Common.{◌≡◌, ◌∙◌, sym, ap, subst, ℕ, zero, suc, true, ◌+◌, ◌*◌, ◌/◌, ◌%◌, ◌<◌, ◌≤◌, ◌^◌, List, [], ◌∷◌, ◌++◌, length, take, arith, eq-eqb, nat_eq, lit<, refl}
-use Rattle.std.proofs.Math.Nat.{one-le-pow, pow-suc, lt-div-mul-add, div-eq_of_lt-le, mul-le-mul_right}
+use Rattle.std.proofs.Common.{◌≡◌, ◌∙◌, ap, subst, ℕ, zero, suc, true, ◌+◌, ◌*◌, ◌/◌, ◌%◌, ◌<◌, ◌≤◌, ◌^◌, length, take, arith, eq-eqb, lit<}
+use Rattle.std.proofs.Math.Nat.{one-le-pow, pow-suc, lt-div-mul-add, mul-le-mul_right}
 use Rattle.std.proofs.lemmas.Bool.{eqb-true}
 use Rattle.std.proofs.lemmas.Nat.{div_below}
 use Rattle.std.proofs.lemmas.List.{take_all}
 use Rattle.std.proofs.lemmas.Int.Digits.{number_push}
 use Rattle.std.specs.Int.Digits.{number_from_digits}
-use Rattle.texml_fixed.specs.Decimals.{nearest, from_decimals, to_decimals, fraction, reads_back, last_digits, places}
+use Rattle.texml_fixed.specs.Decimals.{from_decimals, to_decimals, fraction, reads_back, last_digits, places}
 use Rattle.texml_fixed.specs.Printing.{decimals}
 use Rattle.texml_fixed.proofs.Putting.{length-last_digits}
 

@@ -1,5 +1,5 @@
 -- Quotients of signed numbers: by cases, and in a wider type.
-use Rattle.std.proofs.Common.{◌≡◌, ◌≤◌, ◌<◌, ◌+◌, ◌/◌, ℕ, refl, zero, suc, pos, negsuc, neg_ℤ, ℤ, w32, w64, of_z, int_div, FitsSigned, arith}
+use Rattle.std.proofs.Common.{◌≡◌, ◌≤◌, ◌+◌, ◌/◌, ℕ, refl, zero, suc, pos, negsuc, neg_ℤ, ℤ, w32, w64, of_z, int_div, FitsSigned, arith}
 use Rattle.std.proofs.Math.Nat.{div-le_self}
 use lib.Signed.{mag}
 use Rattle.texml_fixed.specs.declared.fault.NumFault.TheVariants.{Overflow}

@@ -1,5 +1,5 @@
 -- Arithmetic within bounds (The TeXbook, chapter 24).
-use Rattle.std.specs.Prelude.{ℤ, pos, neg_ℤ, zero, int_le, int_div, ◌&&◌, if◌then◌else◌, Result, Ok, Err}
+use Rattle.std.specs.Prelude.{◌≤ℤ◌, ℤ, pos, neg_ℤ, zero, int_le, int_div, ◌&&◌, if◌then◌else◌, Result, Ok, Err}
 use Rattle.texml_fixed.specs.declared.fault.NumFault.{NumFault}
 use Rattle.texml_fixed.specs.declared.fault.NumFault.TheVariants.{Overflow}
 use Rattle.texml_fixed.specs.declared.arithmetic.TheConstants.{MAX_NUMBER}
@@ -12,3 +12,7 @@ bounded fault bound value = if int_le (neg_ℤ bound) value && int_le value boun
 abbrev pub divided : ℤ → ℤ → Result ℤ NumFault
 divided a (pos zero) = Err Overflow
 divided a n = bounded Overflow MAX_NUMBER (int_div a n)
+
+-- a number that doesn't pass ±2147483647
+abbrev pub IsWithin : ℤ → Type 0
+IsWithin n = neg_ℤ MAX_NUMBER ≤ℤ n

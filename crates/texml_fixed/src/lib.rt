@@ -16,6 +16,9 @@ mod unit;
 
 pub use arithmetic::{MAX_DIMENSION, MAX_NUMBER, add, add_digit, over, times};
 pub use fault::NumFault;
-pub use glue::{Glue, Order};
+pub use glue::{Amount, Glue, Order};
 pub use scaled::Scaled;
 pub use unit::{Unit, of_decimal};
+
+#[cfg(test)]
+mod tests;

@@ -1,6 +1,7 @@
 //! Dimensions, and how they are printed.
 
-ghost use Rattle.std.specs.Prelude.{◌≡◌, ◌≤◌, ◌%◌, take, drop, length, unsigned_abs};
+ghost use Rattle.std.specs.Prelude.{◌≡◌, ◌≤◌, ◌%◌, take, drop, length, unsigned_abs, neg_ℤ};
+ghost use Rattle.texml_fixed.specs.Arithmetic.{IsWithin};
 ghost use Rattle.texml_fixed.specs.Printing.{printed, decimals};
 ghost use Rattle.texml_fixed.specs.Decimals.{fraction};
 
@@ -12,6 +13,14 @@ use crate::digits::{put_byte, put_decimal, put_last_digits, put_sign};
 pub struct Scaled(pub i32);
 
 impl Scaled {
+    /// The dimension with the other sign.
+    pub fn negated(self) -> Scaled
+        requires { IsWithin self.0 }
+        ensures { result ≡ record { 0 = neg_ℤ self.0 } }
+    {
+        Scaled(-self.0)
+    }
+
     /// Prints it in points, without the unit: the bytes from the start of `into` up to the answer. A sign only
     /// where it is negative, at least one digit before the point and one behind it, and behind it the fewest
     /// that read back as the same number of scaled points.

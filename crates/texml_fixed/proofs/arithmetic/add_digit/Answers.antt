@@ -8,8 +8,8 @@ use Rattle.texml_fixed.proofs.arithmetic.add_digit.Goals as goal
 pub returns : goal.returns
 returns c =
     let product : c.product.result ≡ c.args.a *ℤ c.args.radix =
-        rw (to_z-of_z w32 c.args.a c.ranges.a, to_z-of_z w32 c.args.radix c.ranges.radix) at c.product.ensures.value in
+    rw (to_z-of_z w32 c.args.a c.ranges.a, to_z-of_z w32 c.args.radix c.ranges.radix) at c.product.ensures.value in
     let digit : c.from.result ≡ c.args.digit = c.from.ensures ∙ to_z-of_z w32 c.args.digit c.ranges.digit in
     let number : to_z w64 (of_z w64 (to_z w64 (of_z w64 c.product.result) +ℤ to_z w64 (of_z w64 c.from.result))) ≡ c.args.a *ℤ c.args.radix +ℤ c.args.digit =
-        omega (arith, ints) in
+    omega (arith, ints) in
     c.within.ensures ∙ ap (bounded TooBig MAX_NUMBER) number

@@ -1,4 +1,4 @@
-use Rattle.std.proofs.Common.{arith, rules, sym, subst, length, ap, List, ℕ, ◌<◌, ◌/◌}
+use Rattle.std.proofs.Common.{arith, rules, sym, subst, length, ap, List, ℕ}
 use Rattle.std.proofs.lemmas.Fmt.{decimal_digit}
 use Rattle.texml_fixed.specs.Putting.{Puts}
 use Rattle.texml_fixed.proofs.Putting.{puts_decimal, length-decimal_step}
@@ -10,7 +10,7 @@ put_byte-requires t c = omega (arith, ap length (decimal_digit c.args.number c.i
 pub returns-then-number-lt10 : goal.returns-then-number-lt10
 returns-then-number-lt10 t c =
     subst (λ (l : List ℕ). Puts c.args.into.now c.put_byte.new.into c.args.at c.put_byte.result l)
-      (sym (decimal_digit c.args.number c.if-number-lt10.true)) c.put_byte.ensures
+    (sym (decimal_digit c.args.number c.if-number-lt10.true)) c.put_byte.ensures
 
 pub put_decimal-last-requires : goal.put_decimal-last-requires
 put_decimal-last-requires t c =

@@ -1,4 +1,4 @@
-use Rattle.std.proofs.Common.{arith, map, ℕ, ◌+◌, ◌/◌, ◌-◌}
+use Rattle.std.proofs.Common.{arith, ℕ, ◌+◌, ◌/◌, ◌-◌}
 use Rattle.std.proofs.lemmas.List.{length-map}
 use Rattle.texml_fixed.specs.Decimals.{last_digits}
 use Rattle.texml_fixed.proofs.Putting.{puts_last_digits, length-last_digits}
