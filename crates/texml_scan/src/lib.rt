@@ -21,3 +21,6 @@ pub use keyword::KeywordScan;
 pub use looks::{Held, Look, Quantity};
 pub use measure::DimenScan;
 pub use steps::{Scan, ScanFault, ScanStep};
+
+#[cfg(test)]
+mod tests;

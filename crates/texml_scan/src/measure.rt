@@ -355,7 +355,12 @@ impl Measuring {
     fn measured(&self, unit: Unit) -> Result<Scaled, ScanFault>
         ensures { result ≡ in_unit (measure_of self.now) unit }
     {
-        in_unit(self.negative, self.whole, &self.decimals[..self.count], unit)
+        in_unit(
+            self.negative,
+            self.whole,
+            &self.decimals[..self.count],
+            unit,
+        )
     }
 
     // A letter in the middle of a word.

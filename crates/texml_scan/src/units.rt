@@ -5,8 +5,8 @@ ghost use Rattle.texml_scan.specs.Measure.{opening_of, is_point, letter_of, begi
 ghost use Rattle.texml_fixed.specs.Units.{measured};
 
 use crate::characters::{
-    BACKQUOTE, CAPITAL_A, CAPITAL_Z, COMMA, DOUBLE_QUOTE, NINE, POINT, SINGLE_QUOTE, SMALL_A, SMALL_Z,
-    ZERO,
+    BACKQUOTE, CAPITAL_A, CAPITAL_Z, COMMA, DOUBLE_QUOTE, NINE, POINT, SINGLE_QUOTE, SMALL_A,
+    SMALL_Z, ZERO,
 };
 use crate::int::signed;
 use crate::keyword::is_letter;
