@@ -7,19 +7,23 @@
 //! It stands on the standard library alone.
 #![tactic(auto)]
 
+mod byte_list;
 mod bytes;
 pub mod category;
 mod fault;
 pub mod fault_code;
 mod line;
 mod names;
+mod pieces;
 mod spelling;
 mod tokens;
 
+pub use byte_list::ByteList;
 pub use bytes::Bytes;
 pub use fault::Fault;
 pub use line::Line;
 pub use names::Names;
+pub use pieces::{MOST_PARAMETERS, Params, ParamsOf, Piece, PieceOf, Pieces};
 pub use spelling::{show, spell};
 pub use tokens::{Name, Token, Tokens};
 
