@@ -1,8 +1,8 @@
 //! Parameter texts of macros (The TeXbook, chapter 20).
 
-ghost use Rattle.std.specs.Prelude.{◌≡◌, [], ◌∷◌, ◌++◌, OnOk, OnErr};
+ghost use Rattle.std.specs.Prelude.{◌≡◌, ◌↔◌, IsTrue, [], ◌∷◌, ◌++◌, OnOk, OnErr};
 
-use crate::tokens::{Token, Tokens};
+use crate::tokens::{Token, Tokens, same_tokens};
 use std::alloc::{AllocError, Global};
 use std::marker::Model;
 use std::rc::Rc;
@@ -121,3 +121,28 @@ pub struct ParamsOf<L, P> {
 
 /// A parameter text of the code, whose names are numbers.
 pub type Params = ParamsOf<Tokens, Pieces>;
+
+/// Whether two parameter texts are the same.
+pub fn same_params(a: &Params, b: &Params) -> bool
+    ensures { IsTrue result ↔ (a.now ≡ b.now) }
+{
+    same_default(&a.default, &b.default) && same_pieces(&a.pieces, &b.pieces)
+}
+
+// Whether two defaults are the same.
+fn same_default(a: &Option<Tokens>, b: &Option<Tokens>) -> bool
+    ensures { IsTrue result ↔ (a.now ≡ b.now) }
+{
+    match (a, b) {
+        (None, None) => true,
+        (Some(a), Some(b)) => same_tokens(a, b),
+        _ => false,
+    }
+}
+
+// Whether two lists of pieces are the same.
+fn same_pieces(a: &Pieces, b: &Pieces) -> bool
+    ensures { IsTrue result ↔ (a.now ≡ b.now) }
+{
+    *a == *b
+}
