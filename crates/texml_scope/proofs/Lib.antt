@@ -8,5 +8,6 @@ pub mod Steps
 pub mod Answering
 pub mod Groups
 pub mod Texts
+pub mod Meanings
 pub mod Covering
 pub mod Entering

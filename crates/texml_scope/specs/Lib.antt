@@ -4,5 +4,6 @@ pub mod Groups
 pub mod World
 pub mod Shown
 pub mod Texts
+pub mod Equality
 pub mod Numbers
 pub mod Builtins

@@ -1,10 +1,12 @@
 -- Worlds by what a name N and a token T is, the kind of value that each key has, and the worlds of the code, whose names are numbers.
-use Rattle.std.specs.Prelude.{◌≤◌, ℕ, ℤ, pos, negsuc, ◌≤ℤ◌, List, []}
+use Rattle.std.specs.Prelude.{◌≤◌, ℕ, ℤ, pos, negsuc, List, []}
 use Rattle.std.specs.List.{All}
 use Rattle.std.specs.Char.{IsScalar}
 use Rattle.texml_token.specs.declared.tokens.Name.{Name as NameCode}
 use Rattle.texml_token.specs.declared.tokens.Token.{Token as TokenCode}
 use Rattle.texml_token.specs.declared.category.TheConstants.{INVALID}
+use Rattle.texml_fixed.specs.Arithmetic.{IsWithin}
+use Rattle.texml_fixed.specs.Glue.{IsGlueWithin}
 use Rattle.texml_scope.specs.declared.values.KeyOf.{KeyOf}
 use Rattle.texml_scope.specs.declared.values.KeyOf.TheVariants.{Name, Active, Cat, Lower, Upper, Count, Dimen, Skip, Toks, EscapeChar, EndLineChar, Counter, Within, CurrentLabel}
 use Rattle.texml_scope.specs.declared.values.ValueOf.TheVariants as values
@@ -19,10 +21,6 @@ WorldOf N T = Groups (KeyOf N) (Value N T) T (KindOf N)
 -- the world in which nothing was set and no group is open
 abbrev pub new_world : {N T : Type 0} → WorldOf N T
 new_world = record { top = starting; groups = [] }
-
--- numbers lie within ±2147483647
-abbrev pub InRange : ℤ → Type 0
-InRange z = (negsuc 2147483646 ≤ℤ z) × (z ≤ℤ pos 2147483647)
 
 -- a number is one of the sixteen categories
 abbrev pub IsCategory : ℤ → Type 0
@@ -44,12 +42,12 @@ IsNumber P (values.Number z) = P z
 IsNumber P v = ⊥
 
 abbrev pub IsCount : {N T : Type 0} → Value N T → Type 0
-IsCount (values.Number z) = InRange z
+IsCount (values.Number z) = IsWithin z
 IsCount values.Absent = Unit {0}
 IsCount v = ⊥
 
 abbrev pub IsGlue : {N T : Type 0} → Value N T → Type 0
-IsGlue (values.Glue g) = InRange g.width.0 × InRange g.stretch.0 × InRange g.shrink.0
+IsGlue (values.Glue g) = IsGlueWithin g
 IsGlue v = ⊥
 
 abbrev pub IsList : {N T : Type 0} → Value N T → Type 0
@@ -67,12 +65,12 @@ IsOfKind (Active c) v = IsMeaning v
 IsOfKind (Cat c) v = IsNumber IsCategory v
 IsOfKind (Lower c) v = IsNumber IsCode v
 IsOfKind (Upper c) v = IsNumber IsCode v
-IsOfKind (Count n) v = IsNumber InRange v
-IsOfKind (Dimen n) v = IsNumber InRange v
+IsOfKind (Count n) v = IsNumber IsWithin v
+IsOfKind (Dimen n) v = IsNumber IsWithin v
 IsOfKind (Skip n) v = IsGlue v
 IsOfKind (Toks n) v = IsList v
-IsOfKind EscapeChar v = IsNumber InRange v
-IsOfKind EndLineChar v = IsNumber InRange v
+IsOfKind EscapeChar v = IsNumber IsWithin v
+IsOfKind EndLineChar v = IsNumber IsWithin v
 IsOfKind (Counter n) v = IsCount v
 IsOfKind (Within n) v = IsParent v
 IsOfKind CurrentLabel v = IsList v

@@ -8,6 +8,7 @@
 #![tactic(auto)]
 
 pub mod builtins;
+mod equality;
 mod first;
 mod scope;
 mod start;
@@ -15,6 +16,7 @@ mod table;
 mod values;
 
 pub use builtins::{builtin, is_conditional};
+pub use equality::same_meaning;
 pub use first::first_scope;
 pub use scope::Scope;
 pub use values::{
