@@ -7,6 +7,7 @@
 //! It stands on the standard library alone.
 #![tactic(auto)]
 
+mod byte_list;
 mod bytes;
 pub mod category;
 mod fault;
@@ -16,6 +17,7 @@ mod names;
 mod spelling;
 mod tokens;
 
+pub use byte_list::ByteList;
 pub use bytes::Bytes;
 pub use fault::Fault;
 pub use line::Line;
