@@ -5,6 +5,12 @@
 //! It stands on texml_token for lists of bytes, and on bumpalo.
 #![tactic(auto)]
 
+pub mod model_fault;
+mod ops;
 mod table;
+mod tree;
 
+pub use model_fault::ModelFault;
+pub use ops::{Op, Ops, Sets};
 pub use table::{Elem, ElementLine, ElementLines, Elements, Flags};
+pub use tree::{Attr, Head, Node, Tag, Tree, element, leaf};
