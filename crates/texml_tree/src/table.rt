@@ -30,7 +30,7 @@ pub struct Flags {
 }
 
 /// A line of the table.
-#[derive(Clone, Debug, Drop)]
+#[derive(Debug, Drop)]
 pub struct ElementLine {
     /// The element's name.
     pub name: Bytes,
@@ -44,6 +44,21 @@ pub struct ElementLine {
     pub holds: ByteList,
     /// The names of the attributes that it may have, in the order in which they are written.
     pub attrs: ByteList,
+}
+
+impl Clone for ElementLine {
+    ghost is_clone = { λ line copy. copy ≡ line };
+
+    fn clone(&self) -> Result<ElementLine, AllocError> {
+        Ok(ElementLine {
+            name: self.name.clone()?,
+            tag: self.tag.clone()?,
+            class: self.class.clone()?,
+            flags: self.flags,
+            holds: self.holds.clone()?,
+            attrs: self.attrs.clone()?,
+        })
+    }
 }
 
 /// A list of lines of the table.
@@ -92,6 +107,16 @@ impl ElementLines {
     }
 }
 
+impl Clone for ElementLines {
+    ghost is_clone = { λ lines copy. copy ≡ lines };
+
+    fn clone(&self) -> Result<ElementLines, AllocError> {
+        Ok(ElementLines {
+            items: self.items.clone()?,
+        })
+    }
+}
+
 /// The table of elements. An element's number is its place among the lines, an attribute's its place among the
 /// attributes.
 #[derive(Debug, Drop)]
@@ -100,4 +125,15 @@ pub struct Elements {
     pub lines: ElementLines,
     /// The names of the attributes.
     pub attributes: ByteList,
+}
+
+impl Clone for Elements {
+    ghost is_clone = { λ elements copy. copy ≡ elements };
+
+    fn clone(&self) -> Result<Elements, AllocError> {
+        Ok(Elements {
+            lines: self.lines.clone()?,
+            attributes: self.attributes.clone()?,
+        })
+    }
 }
