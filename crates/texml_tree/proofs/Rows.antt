@@ -1,5 +1,5 @@
 -- The definitions on small trees.
-use Rattle.std.proofs.Common.{◌≡◌, refl, List, [], ◌∷◌, Option, None, Some, true}
+use Rattle.std.proofs.Common.{◌≡◌, refl, [], ◌∷◌, None, Some, true}
 use Rattle.std.specs.Prelude.{codes}
 use Rattle.texml_tree.specs.Tree.{Head, Tree, text, element, trees, none, more, elem_of, text_of, children_of, value_of, attr_of, target_of, is_identified}
 
