@@ -4,8 +4,8 @@ use Rattle.std.specs.Option.{option_map, option_map_or, option_or}
 use Rattle.std.specs.List.{slice_get, range_with_len}
 use Rattle.std.specs.declared.vec.Vec.{Vec}
 use Rattle.std.specs.declared.alloc.Global.{Global}
-use Rattle.texml_tree.specs.declared.elements.Elem.{Elem}
-use Rattle.texml_tree.specs.declared.elements.ElementLine.{ElementLine}
+use Rattle.texml_tree.specs.declared.table.Elem.{Elem}
+use Rattle.texml_tree.specs.declared.table.ElementLine.{ElementLine}
 use Rattle.texml_model.specs.Chain.{Holding, by_one}
 
 -- f at each of the first n places

@@ -1,3 +1,4 @@
 pub mod Chain
 pub mod Rules
 pub mod Levels
+pub mod Prepared

@@ -4,9 +4,9 @@ use Rattle.std.specs.Prelude.{◌≡◌, ℕ, Bool, true, false, ◌&&◌, ◌||
 use Rattle.std.specs.Option.{option_map_or}
 use Rattle.std.specs.List.{slice_get, list_any, list_all, position, position_or_len}
 use Rattle.texml_token.specs.Token.{text_eq}
-use Rattle.texml_tree.specs.declared.elements.Elements.{Elements}
-use Rattle.texml_tree.specs.declared.elements.ElementLine.{ElementLine}
-use Rattle.texml_tree.specs.declared.elements.Flags.{Flags}
+use Rattle.texml_tree.specs.declared.table.Elements.{Elements}
+use Rattle.texml_tree.specs.declared.table.ElementLine.{ElementLine}
+use Rattle.texml_tree.specs.declared.table.Flags.{Flags}
 use Rattle.texml_model.specs.Chain.{Holding, Leads, chain_between}
 
 pub record Rules : Type 0 where

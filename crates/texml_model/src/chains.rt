@@ -1,9 +1,10 @@
 //! The chains of a table, found level by level: those without an element, then those of one element, and so on.
 
-ghost use Rattle.std.specs.Prelude.{◌≡◌, ◌&&◌, length, IfOk};
+ghost use Rattle.std.specs.Prelude.{◌≡◌, ◌<◌, ◌&&◌, length, map, IfOk};
+ghost use Rattle.std.specs.Option.{option_map};
 ghost use Rattle.std.specs.List.{slice_get};
 ghost use Rattle.texml_model.specs.Chain.{may as spec_may, by_one, chain_of, chain_between};
-ghost use Rattle.texml_model.specs.Levels.{flag_at, bit_at, holding_with, chain_list, chain_lists, at, upto, wider, missing};
+ghost use Rattle.texml_model.specs.Levels.{flag_at, bit_at, holding_with, places_of, chain_list, chain_lists, at, upto, wider, missing};
 
 use std::alloc::{AllocError, Global};
 use texml_tree::{Elem, ElementLine};
@@ -34,7 +35,38 @@ pub(crate) fn chains_to(
     }
 }
 
+/// The chains to each element of the table.
+pub(crate) fn all_chains(
+    alloc: Global,
+    lines: &[ElementLine],
+    holds: &[Vec<bool>],
+) -> Result<Vec<Chains>, AllocError>
+    requires { length holds.now ≡ length lines.now }
+    ensures { IfOk result (λ all. map (λ found. chain_lists found.items) all.items ≡ upto (λ e. upto (λ p. chain_between (holding_with lines.now holds.now) p (Some e)) (length lines.now)) (length lines.now)) }
+{
+    let mut all = Vec::new(alloc);
+    for elem in 0..lines.len() {
+        let found = chains_to(alloc, lines, holds, Some(elem))?;
+        all.push(found)?;
+    }
+    Ok(all)
+}
+
+/// The chain from the parent.
+pub(crate) fn chain_at(found: &[Option<Vec<Elem>>], parent: usize) -> Option<&[Elem]>
+    ensures { option_map (λ chain. places_of chain.now) result ≡ at (chain_lists found.now) parent }
+{
+    match found.get(parent) {
+        None => None,
+        Some(chain) => match chain {
+            None => None,
+            Some(elems) => Some(elems.as_slice()),
+        },
+    }
+}
+
 /// The chains without an element.
+#[tactic(auto, using(crate::proofs::Walk::push_some, crate::proofs::Walk::push_none))]
 fn direct(
     alloc: Global,
     lines: &[ElementLine],
@@ -55,6 +87,7 @@ fn direct(
 }
 
 /// The chains with at most one element more.
+#[tactic(auto, using(crate::proofs::Walk::upto_push))]
 fn widen(
     alloc: Global,
     lines: &[ElementLine],
@@ -66,21 +99,36 @@ fn widen(
 {
     let mut next = Vec::new(alloc);
     for parent in 0..found.len() {
-        match &found[parent] {
-            Some(chain) => {
-                let copy = Vec::from_slice(alloc, chain.as_slice())?;
-                next.push(Some(copy))?;
-            }
-            None => {
-                let chain = one_more(alloc, lines, holds, found, parent)?;
-                next.push(chain)?;
-            }
-        }
+        let chain = kept_or_found(alloc, lines, holds, found, parent)?;
+        next.push(chain)?;
     }
     Ok(next)
 }
 
+/// The chain from the parent that was found before, or else one with one element more.
+#[tactic(auto, using(crate::proofs::Walk::kept, crate::proofs::Walk::newly_found))]
+fn kept_or_found(
+    alloc: Global,
+    lines: &[ElementLine],
+    holds: &[Vec<bool>],
+    found: &[Option<Vec<Elem>>],
+    parent: usize,
+) -> Result<Option<Vec<Elem>>, AllocError>
+    requires same_lines { length found.now ≡ length lines.now }
+    requires parent { parent < length found.now }
+    ensures { IfOk result (λ chain. chain_list chain ≡ wider (holding_with lines.now holds.now) (at (chain_lists found.now)) parent) }
+{
+    match &found[parent] {
+        Some(chain) => {
+            let copy = Vec::from_slice(alloc, chain.as_slice())?;
+            Ok(Some(copy))
+        }
+        None => one_more(alloc, lines, holds, found, parent),
+    }
+}
+
 /// The chain that begins with the first element from which one is found.
+#[tactic(auto, using(crate::proofs::Walk::pass_shut, crate::proofs::Walk::pass_none, crate::proofs::Walk::none_left))]
 fn one_more(
     alloc: Global,
     lines: &[ElementLine],
@@ -139,7 +187,7 @@ fn opens(lines: &[ElementLine], elem: usize) -> bool
 }
 
 /// Whether the element takes texts.
-fn takes_text(lines: &[ElementLine], elem: usize) -> bool
+pub(crate) fn takes_text(lines: &[ElementLine], elem: usize) -> bool
     ensures { result ≡ flag_at (λ line. line.flags.text) lines.now elem }
 {
     match lines.get(elem) {

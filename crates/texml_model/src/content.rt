@@ -2,17 +2,18 @@
 
 ghost use Rattle.std.specs.Prelude.{◌≡◌, ◌<◌, length, map, IfOk};
 ghost use Rattle.std.specs.Option.{option_map};
+ghost use Rattle.std.specs.List.{All};
 ghost use Rattle.texml_model.specs.Rules.{IsContentModel, Sound, VoidIsEmpty, rules_of, flags_of};
 ghost use Rattle.texml_model.specs.Levels.{places_of};
 
-use crate::chains::{Chains, chains_to, is_held};
-use crate::places::{attr_numbers, holdings};
+use crate::chains::{Chains, all_chains, chain_at, chains_to, is_held, takes_text};
+use crate::places::{attr_numbers, holdings, place_of};
 use std::alloc::{AllocError, Global};
 use std::marker::Model;
 use texml_tree::{Elem, Elements, Flags};
 
 /// Which element may hold which, and how an element is written: a table of elements, prepared for look-ups.
-#[derive(Debug, Drop)]
+#[derive(Drop)]
 pub struct Content {
     elements: Elements,
     holds: Vec<Vec<bool>>,
@@ -22,13 +23,13 @@ pub struct Content {
 }
 
 impl Model for Content {
-    ghost use Rattle.texml_tree.specs.declared.elements.Elements.{Elements};
+    ghost use Rattle.texml_tree.specs.declared.table.Elements.{Elements};
 
     ghost Value = { Elements };
 
     ghost view = { λ c. c.elements };
 
-    ghost use Rattle.texml_model.specs.Levels.{IsPrepared};
+    ghost use Rattle.texml_model.specs.Prepared.{IsPrepared};
 
     ghost invariant = { λ c. IsPrepared c.elements c.holds.items c.attrs.items c.to_text.items c.to_elements.items };
 }
@@ -88,10 +89,10 @@ impl Content {
         ensures sound { Sound (rules_of self.now) }
     {
         match child {
-            None => chain_at(&self.to_text, parent.0),
+            None => chain_at(self.to_text.as_slice(), parent.0),
             Some(elem) => match self.to_elements.get(elem.0) {
                 None => None,
-                Some(chains) => chain_at(chains, parent.0),
+                Some(chains) => chain_at(chains.as_slice(), parent.0),
             },
         }
     }

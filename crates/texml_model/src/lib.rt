@@ -7,3 +7,7 @@
 #![tactic(auto)]
 
 mod chains;
+mod content;
+mod places;
+
+pub use content::Content;
