@@ -11,8 +11,11 @@ use Rattle.texml_model.proofs.Least.{upto_length, upto_more, upto_at, wider_is, 
 abbrev Found : Type 0
 Found = Option (Vec Elem Global)
 
+pub push_upto : {A B : Type 0} (v : A → B) (f : ℕ → B) (n : ℕ) (l : List A) (x : A) → map v l ≡ upto f n → v x ≡ f n → map v (l ++ x ∷ []) ≡ upto f (n + 1)
+push_upto v f n l x e h = map-append v l (x ∷ []) ∙ (λ i. e i ++ h i ∷ []) ∙ sym (upto_more f n)
+
 pub upto_push : (f : ℕ → Option (List ℕ)) (n : ℕ) (l : List Found) (x : Found) → chain_lists l ≡ upto f n → chain_list x ≡ f n → chain_lists (l ++ x ∷ []) ≡ upto f (n + 1)
-upto_push f n l x e h = map-append chain_list l (x ∷ []) ∙ (λ i. e i ++ h i ∷ []) ∙ sym (upto_more f n)
+upto_push f n l x e h = push_upto chain_list f n l x e h
 
 at_found : (l : List Found) (e : ℕ) (x : Found) → e < length l → x ≡ get_or l e x → at (chain_lists l) e ≡ chain_list x
 at_found l e x h q = get_or-map chain_list l e x None h ∙ ap chain_list (sym q)

@@ -1,7 +1,7 @@
 //! The chains of a table, found level by level: those without an element, then those of one element, and so on.
 
 ghost use Rattle.std.specs.Prelude.{◌≡◌, ◌<◌, ◌&&◌, length, map, IfOk};
-ghost use Rattle.std.specs.Option.{option_map};
+ghost use Rattle.std.specs.Option.{option_map, option_and_then};
 ghost use Rattle.std.specs.List.{slice_get};
 ghost use Rattle.texml_model.specs.Chain.{may as spec_may, by_one, chain_of, chain_between};
 ghost use Rattle.texml_model.specs.Levels.{flag_at, bit_at, holding_with, places_of, chain_list, chain_lists, at, upto, wider, missing};
@@ -62,6 +62,16 @@ pub(crate) fn chain_at(found: &[Option<Vec<Elem>>], parent: usize) -> Option<&[E
             None => None,
             Some(elems) => Some(elems.as_slice()),
         },
+    }
+}
+
+/// The chain from the parent to the element.
+pub(crate) fn chain_to(all: &[Chains], parent: usize, elem: usize) -> Option<&[Elem]>
+    ensures { option_map (λ chain. places_of chain.now) result ≡ option_and_then (λ found. at (chain_lists found.items) parent) (slice_get all.now elem) }
+{
+    match all.get(elem) {
+        None => None,
+        Some(found) => chain_at(found.as_slice(), parent),
     }
 }
 

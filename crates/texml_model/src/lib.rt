@@ -8,6 +8,11 @@
 
 mod chains;
 mod content;
+mod laws;
 mod places;
 
 pub use content::Content;
+pub use laws::chains_are_first;
+
+#[cfg(test)]
+mod tests;

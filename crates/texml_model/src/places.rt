@@ -1,16 +1,16 @@
 //! Names of a table turned into places.
 
-ghost use Rattle.std.specs.Prelude.{◌≡◌, map, IfOk};
-ghost use Rattle.std.specs.Option.{option_map};
-ghost use Rattle.std.specs.List.{position, position_or_len};
+ghost use Rattle.std.specs.Prelude.{◌≡◌, [], IfOk};
+ghost use Rattle.std.specs.Option.{option_map, option_map_or};
+ghost use Rattle.std.specs.List.{slice_get, position, position_or_len};
 ghost use Rattle.texml_token.specs.Token.{text_eq};
-ghost use Rattle.texml_model.specs.Rules.{lists, attr_number};
+ghost use Rattle.texml_model.specs.Rules.{lists};
 ghost use Rattle.texml_model.specs.Levels.{rows_of};
-ghost use Rattle.texml_model.specs.Prepared.{held_row, held_rows, attr_rows};
+ghost use Rattle.texml_model.specs.Prepared.{held_row, held_rows, attr_row, attr_rows};
 
 use std::alloc::{AllocError, Global};
 use texml_token::Bytes;
-use texml_tree::{Elem, ElementLine, Elements};
+use texml_tree::{Elem, ElementLine};
 
 /// For each line, and for each line again, whether the first lists the name of the second.
 pub(crate) fn holdings(alloc: Global, lines: &[ElementLine]) -> Result<Vec<Vec<bool>>, AllocError>
@@ -48,44 +48,75 @@ fn is_listed(parent: &ElementLine, child: &ElementLine) -> bool
 /// For each line the numbers of its attributes.
 pub(crate) fn attr_numbers(
     alloc: Global,
-    elements: &Elements,
+    attributes: &[Bytes],
+    lines: &[ElementLine],
 ) -> Result<Vec<Vec<usize>>, AllocError>
-    ensures { IfOk result (λ rows. rows_of rows.items ≡ attr_rows elements.now) }
+    ensures { IfOk result (λ rows. rows_of rows.items ≡ attr_rows attributes.now lines.now) }
 {
     let mut rows = Vec::new(alloc);
-    for line in elements.lines.as_slice() {
-        let row = numbers(alloc, elements.attributes.as_slice(), line.attrs.as_slice())?;
+    for line in lines {
+        let row = numbers(alloc, attributes, line)?;
         rows.push(row)?;
     }
     Ok(rows)
 }
 
-/// The places of names in a list.
-fn numbers(alloc: Global, attributes: &[Bytes], names: &[Bytes]) -> Result<Vec<usize>, AllocError>
-    ensures { IfOk result (λ row. row.items ≡ map (λ name. position_or_len (λ t. text_eq t name) attributes.now) names.now) }
+/// The numbers of the attributes of a line.
+fn numbers(
+    alloc: Global,
+    attributes: &[Bytes],
+    line: &ElementLine,
+) -> Result<Vec<usize>, AllocError>
+    ensures { IfOk result (λ row. row.items ≡ attr_row attributes.now line.now) }
 {
-    names
+    line.attrs
+        .as_slice()
         .iter()
         .map(|name| place_or_len(attributes, name))
         .collect(alloc)
 }
 
+/// The numbers at a place, or none where there is no such place.
+pub(crate) fn row_at(rows: &[Vec<usize>], at: usize) -> &[usize]
+    ensures { result.now ≡ option_map_or (λ row. row.items) (slice_get rows.now at) [] }
+{
+    match rows.get(at) {
+        None => &[],
+        Some(row) => row.as_slice(),
+    }
+}
+
 /// The first place of a text, or the number of texts where it isn't there.
+#[tactic(auto, using(crate::proofs::Positions::found_place, crate::proofs::Positions::no_place))]
 fn place_or_len(texts: &[Bytes], text: &Bytes) -> usize
     ensures { result ≡ position_or_len (λ t. text_eq t text.now) texts.now }
 {
-    match texts.iter().position(|listed| listed == text) {
+    match place(texts, text) {
         None => texts.len(),
         Some(at) => at,
     }
+}
+
+/// The first place of a text.
+fn place(texts: &[Bytes], text: &Bytes) -> Option<usize>
+    ensures { result ≡ position (λ t. text_eq t text.now) texts.now }
+{
+    texts.iter().position(|listed| listed == text)
 }
 
 /// The element of a name.
 pub(crate) fn place_of(lines: &[ElementLine], name: &[u8]) -> Option<Elem>
     ensures { option_map (λ e. e.0) result ≡ position (λ line. text_eq line.name name.now) lines.now }
 {
-    lines
-        .iter()
-        .position(|line| line.name.as_slice() == name)
-        .map(Elem)
+    match line_of(lines, name) {
+        None => None,
+        Some(at) => Some(Elem(at)),
+    }
+}
+
+/// The place of the line with a name.
+fn line_of(lines: &[ElementLine], name: &[u8]) -> Option<usize>
+    ensures { result ≡ position (λ line. text_eq line.name name.now) lines.now }
+{
+    lines.iter().position(|line| line.name.as_slice() == name)
 }
