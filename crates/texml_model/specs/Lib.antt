@@ -2,3 +2,4 @@ pub mod Chain
 pub mod Rules
 pub mod Levels
 pub mod Prepared
+pub mod Small
