@@ -1,11 +1,14 @@
 //! Reading arguments token by token.
 
-ghost use Rattle.std.specs.Prelude.{◌≡◌, ◌≤◌, ◌<◌, ◌+◌, ◌↔◌, IsTrue, slice_index_or, Some, [], ◌∷◌, ◌++◌, ℕ, length, IfOk, IfSome, OnOk, option_map};
+ghost use Rattle.std.specs.Prelude.{◌≡◌, ◌≤◌, ◌<◌, ◌+◌, ◌↔◌, IsTrue, slice_index_or, Some, false, List, [], ◌∷◌, ◌++◌, ℕ, length, IfOk, IfSome, OnOk, option_map};
 ghost use Rattle.texml_token.specs.declared.pieces.TheConstants.{MOST_PARAMETERS};
+ghost use Rattle.texml_token.specs.Token.{Token as TokenText};
+ghost use Rattle.texml_token.specs.declared.tokens.Token.{Token as TokenCode};
 ghost use Rattle.texml_token.specs.Numbers.{Table, token_at, tokens_at, Numbered, TokenWithin, TokensWithin};
 ghost use Rattle.texml_match.specs.Groups.{open_behind};
 ghost use Rattle.texml_match.specs.Reading.{Wants};
-ghost use Rattle.texml_match.specs.Arguments.{argument_in};
+ghost use Rattle.texml_match.specs.Shape.{Shape as ShapeOf, ShapeWithin, shape_at, is_empty};
+ghost use Rattle.texml_match.specs.Arguments.{argument_in, reading};
 ghost use Rattle.texml_match.specs.Left.{nothing_matched, left, Says, Reads, Stands, OnMore, ArgsWithin, is_more, next_delimiter};
 ghost use Rattle.texml_match.specs.Taking.{Takes, skips};
 
@@ -75,6 +78,8 @@ pub struct ArgMatch {
 
 impl Model for ArgMatch {
     ghost use Rattle.std.specs.Prelude.{◌≡◌, ◌≤◌, length, IfSome};
+    ghost use Rattle.texml_token.specs.Token.{Token as TokenText};
+    ghost use Rattle.texml_token.specs.declared.tokens.Token.{Token as TokenCode};
     ghost use Rattle.texml_token.specs.Numbers.{Table, tokens_at};
     ghost use Rattle.texml_match.specs.Groups.{open_behind};
     ghost use Rattle.texml_match.specs.Left.{Matched};
@@ -87,9 +92,11 @@ impl Model for ArgMatch {
 }
 
 impl ArgMatch {
-    /// Nothing is read yet.
+    /// Nothing is read yet, and all of any shape is left.
     pub fn new(alloc: Global) -> ArgMatch
-        ensures { result ≡ nothing_matched }
+        ensures nothing { result ≡ nothing_matched }
+        ensures whole { (texts : Table) (shape : ShapeOf TokenCode) (more : List TokenText) → left texts shape result more ≡ reading (shape_at texts shape) more }
+        ensures reads { (texts : Table) (shape : ShapeOf TokenCode) → Numbered texts → ShapeWithin (length texts) shape → is_empty shape ≡ false → Reads texts shape result }
     {
         ArgMatch {
             alloc,

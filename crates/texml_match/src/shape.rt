@@ -1,7 +1,8 @@
 //! What the parameter text of a macro asks for.
 
-ghost use Rattle.std.specs.Prelude.{◌≡◌, ◌∷◌, [], ◌<◌, length, slice_index_or, MatchOption, IfSome, IfOk};
-ghost use Rattle.texml_match.specs.Shape.{shape_of, is_empty, leading, delimiters, pieces_left};
+ghost use Rattle.std.specs.Prelude.{◌≡◌, ℕ, ◌∷◌, [], ◌<◌, length, slice_index_or, MatchOption, IfSome, IfOk};
+ghost use Rattle.texml_match.specs.Shape.{ShapeWithin, shape_of, is_empty, leading, delimiters, pieces_left};
+ghost use Rattle.texml_token.specs.Numbers.{ParamsWithin};
 
 use std::alloc::{AllocError, Global};
 use std::marker::Model;
@@ -33,7 +34,8 @@ impl Shape {
     ///
     /// `AllocError` where there is no memory.
     pub fn new(alloc: Global, params: &Params, long: bool) -> Result<Shape, AllocError>
-        ensures { IfOk result (λ shape. shape ≡ shape_of long params.now) }
+        ensures is { IfOk result (λ shape. shape ≡ shape_of long params.now) }
+        ensures within { (count : ℕ) → ParamsWithin count params.now → IfOk result (ShapeWithin count) }
     {
         let pieces = pieces_left(params);
         Ok(Shape {
