@@ -10,7 +10,7 @@ use std::test::Fail;
 use texml_base::{CalmFiles, Steps};
 use texml_scope::{Key, Macro, Meaning, Scope, Value};
 use texml_token::{Bytes, Names, Token, Tokens};
-use texml_watch::Silent;
+use texml_watch::Nobody;
 
 // An engine with nothing to read.
 fn fresh(alloc: Global) -> Result<Engine, Fail>
@@ -29,9 +29,9 @@ fn tokens_of_a_text_are_taken(rt: HostRuntime) -> Result<(), Fail> {
     let mut engine = fresh(alloc)?;
     let name = Bytes::from_slice(alloc, b"main.tex")?;
     engine.push_text(&name, "a%b\n".as_bytes())?;
-    let letter = engine.take(&mut files, &mut Silent)?.ok_or("no letter")?;
+    let letter = engine.take(&mut files, &mut Nobody)?.ok_or("no letter")?;
     assert_eq!(rt; letter.token, Token::Char(97, 11));
-    assert_eq!(rt; engine.take(&mut files, &mut Silent)?.is_none(), true);
+    assert_eq!(rt; engine.take(&mut files, &mut Nobody)?.is_none(), true);
     Ok(())
 }
 
@@ -44,9 +44,9 @@ fn tokens_are_put_back(rt: HostRuntime) -> Result<(), Fail> {
     let mut list = Tokens::new(alloc);
     list.push(Token::Char(49, 12))?;
     engine.put(&list)?;
-    let digit = engine.take(&mut files, &mut Silent)?.ok_or("no digit")?;
+    let digit = engine.take(&mut files, &mut Nobody)?.ok_or("no digit")?;
     assert_eq!(rt; digit.token, Token::Char(49, 12));
-    let tilde = engine.take(&mut files, &mut Silent)?.ok_or("no tilde")?;
+    let tilde = engine.take(&mut files, &mut Nobody)?.ok_or("no tilde")?;
     assert_eq!(rt; tilde.token, Token::Active(126));
     assert_eq!(rt; tilde.frozen, true);
     Ok(())
@@ -89,7 +89,7 @@ fn a_macro_is_expanded_once(rt: HostRuntime) -> Result<(), Fail> {
     let alloc = rt.alloc();
     let mut files = CalmFiles::new(alloc, 1);
     let mut engine = with_macro(alloc, 1)?;
-    engine.expand_once(&mut files, &mut Silent, Token::Active(126))?;
+    engine.expand_once(&mut files, &mut Nobody, Token::Active(126))?;
     assert_eq!(rt; engine.begun(), 1);
     Ok(())
 }
@@ -101,10 +101,10 @@ fn macros_are_expanded_up_to_the_limit(rt: HostRuntime) -> Result<(), Fail> {
     let mut engine = with_macro(alloc, 1)?;
     engine.back(Token::Char(97, 11), false)?;
     engine.back(Token::Active(126), false)?;
-    let letter = engine.fetch(&mut files, &mut Silent)?;
+    let letter = engine.fetch(&mut files, &mut Nobody)?;
     assert_eq!(rt; letter, Some(Token::Char(97, 11)));
     engine.back(Token::Active(126), false)?;
-    match engine.fetch(&mut files, &mut Silent) {
+    match engine.fetch(&mut files, &mut Nobody) {
         Err(Stop::Limit(limit)) => assert_eq!(rt; limit, 1),
         _ => assert!(rt; false),
     }
