@@ -70,8 +70,8 @@ all_builtins = refl
 pub place_of_relax : builtin_place (codes "relax") ≡ Some 28
 place_of_relax = refl
 
-pub verb_is_not_built : builtin_place (codes "verb") ≡ None
-verb_is_not_built = refl
+pub foo_is_no_builtin : builtin_place (codes "foo") ≡ None
+foo_is_no_builtin = refl
 
 pub ifcase_begins_a_conditional : is_conditional 18 ≡ true
 ifcase_begins_a_conditional = refl
@@ -82,5 +82,5 @@ else_begins_none = refl
 pub run_knows_par : first_world.top (keys.Name (codes "par")) ≡ values.Means (meanings.Builtin 74)
 run_knows_par = refl
 
-pub run_knows_no_verb : first_world.top (keys.Name (codes "verb")) ≡ values.Means meanings.Undefined
-run_knows_no_verb = refl
+pub run_knows_no_foo : first_world.top (keys.Name (codes "foo")) ≡ values.Means meanings.Undefined
+run_knows_no_foo = refl

@@ -70,7 +70,7 @@ fn builtins_have_their_places(rt: HostRuntime) {
     assert_eq!(rt; builtin(&[114, 101, 108, 97, 120]), Some(28), "relax");
     assert_eq!(rt; builtin(&[100, 101, 102]), Some(29), "def");
     assert_eq!(rt; builtin(&[112, 97, 114]), Some(74), "par");
-    assert_eq!(rt; builtin(&[118, 101, 114, 98]), None, "verb is not built");
+    assert_eq!(rt; builtin(&[102, 111, 111]), None, "foo is none");
 }
 
 #[test]
