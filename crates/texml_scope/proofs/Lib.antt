@@ -11,3 +11,4 @@ pub mod Texts
 pub mod Meanings
 pub mod Covering
 pub mod Entering
+pub mod Rows
