@@ -2,7 +2,7 @@
 
 ghost use Rattle.std.specs.Prelude.{◌≡◌, [], ◌∷◌, List};
 ghost use Rattle.texml_scan.specs.declared.looks.Look.TheVariants.{End};
-ghost use Rattle.texml_scan.specs.Grammar.{Remainder, said, said_end, wanted, OnAsk, Ends, IsLast};
+ghost use Rattle.texml_scan.specs.Grammar.{Remainder, said, said_end, wanted, OnAsk, Ends, IsLast, PutsSome};
 
 use crate::looks::Look;
 
@@ -33,7 +33,8 @@ pub trait Scan<V> {
     /// The next thing that is looked at.
     fn feed(&mut self, look: Look) -> ScanStep<V>
         ensures said { (more : List Look) → rest self.old (look ∷ more) ≡ said result (rest self.new) more }
-        ensures asked { OnAsk result (self.new ≡ self.old) };
+        ensures asked { OnAsk result (self.new ≡ self.old) }
+        ensures back { PutsSome result };
 
     /// Whether the next token is wanted unexpanded.
     fn raw(&self) -> bool
