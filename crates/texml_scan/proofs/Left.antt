@@ -1,5 +1,5 @@
 -- What a grammar leaves is an end of what it reads, so no more is put back than was looked at.
-use Rattle.std.proofs.Common.{◌≡◌, ◌∙◌, sym, ap, refl, arith, ℕ, ◌+◌, ◌≤◌, suc, Bool, true, false, not, if◌then◌else◌, Option, Some, None, List, [], ◌∷◌, ◌++◌, length, append_assoc, length-append, Result, Ok, Err, pos, negsuc, ℤ, codes}
+use Rattle.std.proofs.Common.{◌≡◌, ◌∙◌, sym, ap, refl, arith, ℕ, ◌≤◌, suc, Bool, true, false, not, if◌then◌else◌, Option, Some, None, List, [], ◌∷◌, ◌++◌, length, append_assoc, length-append, Result, Ok, Err, pos, negsuc, ℤ, codes}
 use Rattle.texml_fixed.specs.declared.scaled.Scaled.{Scaled}
 use Rattle.texml_fixed.specs.declared.glue.Amount.{Amount}
 use Rattle.texml_fixed.specs.declared.glue.Order.{Order}
@@ -17,11 +17,11 @@ use Rattle.texml_scan.specs.declared.units.Mark.TheVariants as mark
 use Rattle.texml_scan.specs.declared.steps.ScanFault.{ScanFault}
 use Rattle.texml_scan.specs.declared.steps.ScanFault.TheVariants.{TooBig, TooLarge, IllegalUnit}
 use Rattle.texml_scan.specs.Looks.{is_space, digit_of, start_of, code_of, sign_turn}
-use Rattle.texml_scan.specs.Grammar.{Text, Read, Wants, Gives, Fails, behind, ◌>>=◌, give, fail, while, Verdict, Decided, verdict}
-use Rattle.texml_scan.specs.Number.{signed, is_within, one_space, known, digit_turn, digits, first_by, first_digit, quoted_by, quoted, begun, unsigned, number_from, number}
+use Rattle.texml_scan.specs.Grammar.{Text, Read, Wants, Gives, Fails, behind, ◌>>=◌, give, fail, while, Decided, verdict}
+use Rattle.texml_scan.specs.Number.{signed, is_within, one_space, known, digit_turn, digits, first_by, first_digit, quoted_by, quoted, begun, unsigned, number}
 use Rattle.texml_scan.specs.Keyword.{is_letter, spaces, space_turn, letters, word, keyword}
 use Rattle.texml_scan.specs.Measure.{Measure, unless_too_large, exactly, fil_turn, fils, in_unit, found, second, true_mark, true_first, true_unit, filled, marked, unit_first, units, decimal_turn, fraction, point, decimal, factor, known_factor, known_dimension, opened, unsigned_measure, measure_from, measure, with_width, dimension, amount, unit_of, letter_of, begins_true_unit, mark_of, opening_of, is_point}
-use Rattle.texml_scan.specs.Glue.{plus, minus, minus_then, shrunk, plus_then, stretched, known_glue, glue_opened, internal_glue, unsigned_glue, glue_from, glue, is_glue_within, signed_glue}
+use Rattle.texml_scan.specs.Glue.{plus, minus, minus_then, shrunk, plus_then, stretched, known_glue, glue_opened, internal_glue, unsigned_glue, glue, is_glue_within, signed_glue}
 
 -- ---- ends of lists
 
@@ -95,7 +95,7 @@ known_leaves negative i = or_fails TooBig (is_within (signed negative i)) (give 
 digits_leave : (negative : Bool) (radix n : ℕ) → LeavesAnEnd (digits negative radix n)
 digits_leave negative radix n =
     then_leaves (while (digit_turn radix) n) (λ m. one_space (signed negative (pos m))) (while_leaves (digit_turn radix) n)
-      (λ m. one_space_leaves (signed negative (pos m)))
+    (λ m. one_space_leaves (signed negative (pos m)))
 
 first_by_leaves : (negative : Bool) (radix : ℕ) (d : Option ℕ) → LeavesAnEnd (first_by negative radix d)
 first_by_leaves negative radix None xs = tt
@@ -200,14 +200,14 @@ units_leave m = then_leaves spaces (λ _. unit_first m) spaces_leave (λ _. unit
 fraction_leaves : (fil negative : Bool) (whole : ℕ) (ds : List ℕ) → LeavesAnEnd (fraction fil negative whole ds)
 fraction_leaves fil negative whole ds =
     then_leaves (while decimal_turn ds) (λ decimals. units (record { fil = fil; negative = negative; whole = whole; decimals = decimals }))
-      (while_leaves decimal_turn ds) (λ decimals. units_leave (record { fil = fil; negative = negative; whole = whole; decimals = decimals }))
+    (while_leaves decimal_turn ds) (λ decimals. units_leave (record { fil = fil; negative = negative; whole = whole; decimals = decimals }))
 
 point_leaves : (fil negative : Bool) (whole : ℕ) → LeavesAnEnd (point fil negative whole)
 point_leaves fil negative whole [] = tt
 point_leaves fil negative whole (x ∷ xs) =
     if_leaves (is_point x) (fraction fil negative whole [] xs) (units (record { fil = fil; negative = negative; whole = whole; decimals = [] }) (x ∷ xs)) (x ∷ xs)
-      (leaves_cons (fraction fil negative whole [] xs) x xs (fraction_leaves fil negative whole [] xs))
-      (units_leave (record { fil = fil; negative = negative; whole = whole; decimals = [] }) (x ∷ xs))
+    (leaves_cons (fraction fil negative whole [] xs) x xs (fraction_leaves fil negative whole [] xs))
+    (units_leave (record { fil = fil; negative = negative; whole = whole; decimals = [] }) (x ∷ xs))
 
 decimal_leaves : (fil negative : Bool) (n : ℕ) → LeavesAnEnd (decimal fil negative n)
 decimal_leaves fil negative n = then_leaves (while (digit_turn 10) n) (point fil negative) (while_leaves (digit_turn 10) n) (point_leaves fil negative)

@@ -1,7 +1,6 @@
 -- The grammars on small texts.
 use Rattle.std.proofs.Common.{◌≡◌, ℕ, pos, negsuc, true, false, Some, None, List, [], ◌∷◌, ◌++◌, map, refl, codes, ◌==◌, ◌&&◌, ◌||◌, if◌then◌else◌, nat_le}
 use Rattle.texml_fixed.specs.declared.scaled.Scaled.{Scaled}
-use Rattle.texml_fixed.specs.declared.glue.Glue.{Glue}
 use Rattle.texml_fixed.specs.declared.glue.Order.TheVariants.{Pt, Fil, Fill}
 use Rattle.texml_fixed.specs.Glue.{glue_of}
 use Rattle.texml_scan.specs.declared.looks.Look.{Look}

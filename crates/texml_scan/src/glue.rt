@@ -26,7 +26,7 @@ enum Part {
     Shrink,
 }
 
-/// A scanner of glue.
+/// A scanner of glue: a dimension with what it may stretch and shrink by, or an internal glue.
 #[derive(Clone, Copy, Debug)]
 pub struct GlueScan {
     part: Part,
