@@ -1,6 +1,14 @@
 pub mod Same
-pub mod Looks
+pub mod Tables
+pub mod Undone
+pub mod Sets
+pub mod Changes
+pub mod OfKind
+pub mod Steps
+pub mod Answering
 pub mod Groups
 pub mod Texts
+pub mod Meanings
 pub mod Covering
-pub mod OfKind
+pub mod Entering
+pub mod Rows

@@ -1,5 +1,9 @@
+pub mod Values
+pub mod Starting
 pub mod Groups
 pub mod World
+pub mod Shown
 pub mod Texts
+pub mod Equality
 pub mod Numbers
 pub mod Builtins

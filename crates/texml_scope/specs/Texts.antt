@@ -1,43 +1,37 @@
 -- Keys, meanings and values with names that are texts, and the world over them. Two names are the same key where their texts are the same.
-use Rattle.std.specs.Prelude.{ℕ, ℤ, Bool, false, List, [], nat_eq, Option, None, Some}
+use Rattle.std.specs.Prelude.{ℕ, Bool, List}
 use Rattle.texml_token.specs.Token.{Token, text_eq}
-use Rattle.texml_scope.specs.declared.scope.GroupKind.{GroupKind}
-use Rattle.texml_scope.specs.Groups.{Groups}
+use Rattle.texml_scope.specs.declared.values.KeyOf.{KeyOf}
+pub use Rattle.texml_scope.specs.declared.values.KeyOf.TheVariants.{Name, Active, Cat, Lower, Upper, Count, Dimen, Skip, Toks, EscapeChar, EndLineChar, Counter, Within, CurrentLabel}
+pub use Rattle.texml_scope.specs.declared.values.MeaningOf.TheVariants.{Undefined, Macro, Builtin, Char as CharMeaning, Quantity, Number as NumberMeaning, Constructor}
+pub use Rattle.texml_scope.specs.declared.values.ValueOf.TheVariants.{Means, Number, Glue, List as ListValue, Parent, Absent}
+use Rattle.texml_scope.specs.declared.values.KindOf.{KindOf}
+use Rattle.texml_scope.specs.Values.{Macro as MacroBy, Meaning as MeaningBy, Value as ValueBy, key_eq as key_eq_by, kind_eq as kind_eq_by}
+use Rattle.texml_scope.specs.World.{WorldOf}
+pub use Rattle.texml_scope.specs.Values.{number_in, meaning_in, plain_macro}
+pub use Rattle.texml_scope.specs.Starting.{starting}
+pub use Rattle.texml_scope.specs.World.{new_world}
 
--- a name, or an active character
-pub data Key : Type 0 where
-  Name : List ℕ → Key
-  Active : ℕ → Key
+abbrev pub Key : Type 0
+Key = KeyOf (List ℕ)
 
-abbrev pub key_eq : Key → Key → Bool
-key_eq (Name s) (Name t) = text_eq s t
-key_eq (Name s) (Active d) = false
-key_eq (Active c) (Name t) = false
-key_eq (Active c) (Active d) = nat_eq c d
+abbrev pub MacroText : Type 0
+MacroText = MacroBy Token
 
--- no meaning, a macro with its body, or a builtin by its place
-pub data Meaning : Type 0 where
-  Undefined : Meaning
-  Macro : List Token → Meaning
-  Builtin : ℕ → Meaning
+abbrev pub Meaning : Type 0
+Meaning = MeaningBy (List ℕ) Token
 
-pub data Value : Type 0 where
-  Means : Meaning → Value
-  Number : ℤ → Value
+abbrev pub Value : Type 0
+Value = ValueBy (List ℕ) Token
 
--- the number that a value is, if it is one
-abbrev pub number_in : Value → Option ℤ
-number_in (Means m) = None
-number_in (Number z) = Some z
+abbrev pub Kind : Type 0
+Kind = KindOf (List ℕ)
 
 abbrev pub World : Type 0
-World = Groups Key Value Token GroupKind
+World = WorldOf (List ℕ) Token
 
--- the value of a key that was never set
-abbrev pub starting : Key → Value
-starting (Name t) = Means Undefined
-starting (Active c) = Means Undefined
+abbrev pub key_eq : Key → Key → Bool
+key_eq = key_eq_by text_eq
 
--- the world in which nothing was set and no group is open
-abbrev pub new_world : World
-new_world = record { top = starting; groups = [] }
+abbrev pub kind_eq : Kind → Kind → Bool
+kind_eq = kind_eq_by text_eq

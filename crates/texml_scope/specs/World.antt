@@ -1,81 +1,97 @@
--- The world that a scope stands for. Names are numbers in it, as they are in the code.
-use Rattle.std.specs.Prelude.{◌≤◌, ℤ, Bool, List, [], map, Option, None, Some, Result, Ok, Err}
-use Rattle.std.specs.Option.{unwrap_or}
+-- Worlds by what a name N and a token T is, the kind of value that each key has, and the worlds of the code, whose names are numbers.
+use Rattle.std.specs.Prelude.{◌≤◌, ℕ, ℤ, pos, negsuc, List, []}
 use Rattle.std.specs.List.{All}
-use Rattle.std.specs.Map.{lookup}
-use Rattle.texml_token.specs.declared.tokens.Token.{Token}
-use Rattle.texml_scope.specs.declared.values.Key.{Key}
-use Rattle.texml_scope.specs.declared.values.Key.TheVariants.{Name, Active}
-use Rattle.texml_scope.specs.contracts.values.KeyPartialEq.TheImpl as keys
-use Rattle.texml_scope.specs.declared.values.Value.{Value}
-use Rattle.texml_scope.specs.declared.values.Value.TheVariants.{Means, Number}
-use Rattle.texml_scope.specs.declared.values.Meaning.TheVariants.{Undefined}
-use Rattle.texml_scope.specs.declared.scope.GroupKind.{GroupKind}
-use Rattle.texml_scope.specs.contracts.scope.GroupKindPartialEq.TheImpl as kinds
-use Rattle.texml_scope.specs.declared.scope.ScopeFault.{ScopeFault}
-use Rattle.texml_scope.specs.declared.scope.ScopeFault.TheVariants as faults
-use Rattle.texml_scope.specs.declared.scope.Level.{Level}
-use Rattle.texml_scope.specs.Groups.{Open, Groups, EndFault, NoGroup, WrongGroup}
+use Rattle.std.specs.Char.{IsScalar}
+use Rattle.texml_token.specs.declared.tokens.Name.{Name as NameCode}
+use Rattle.texml_token.specs.declared.tokens.Token.{Token as TokenCode}
+use Rattle.texml_token.specs.declared.category.TheConstants.{INVALID}
+use Rattle.texml_fixed.specs.Arithmetic.{IsWithin}
+use Rattle.texml_fixed.specs.Glue.{IsGlueWithin}
+use Rattle.texml_scope.specs.declared.values.KeyOf.{KeyOf}
+use Rattle.texml_scope.specs.declared.values.KeyOf.TheVariants.{Name, Active, Cat, Lower, Upper, Count, Dimen, Skip, Toks, EscapeChar, EndLineChar, Counter, Within, CurrentLabel}
+use Rattle.texml_scope.specs.declared.values.ValueOf.TheVariants as values
+use Rattle.texml_scope.specs.declared.values.KindOf.{KindOf}
+use Rattle.texml_scope.specs.Groups.{Groups}
+use Rattle.texml_scope.specs.Values.{Value}
+use Rattle.texml_scope.specs.Starting.{starting}
 
-abbrev pub World : Type 0
-World = Groups Key Value Token GroupKind
-
--- what `==` answers at two keys, and at two kinds of groups
-abbrev pub same_key : Key → Key → Bool
-same_key = keys.eq-value.it
-
-abbrev pub same_kind : GroupKind → GroupKind → Bool
-same_kind = kinds.eq-value.it
-
--- the value of a key that was never set
-abbrev pub starting : Key → Value
-starting (Name n) = Means Undefined
-starting (Active c) = Means Undefined
+abbrev pub WorldOf : Type 0 → Type 0 → Type 0
+WorldOf N T = Groups (KeyOf N) (Value N T) T (KindOf N)
 
 -- the world in which nothing was set and no group is open
-abbrev pub new_world : World
+abbrev pub new_world : {N T : Type 0} → WorldOf N T
 new_world = record { top = starting; groups = [] }
 
--- the value is one of the key's kind, and the key isn't the fixed \relax
-abbrev pub MaySet : Key → Value → Type 0
-MaySet (Name n) (Means m) = 1 ≤ n.0
-MaySet (Active c) (Means m) = Unit {0}
-MaySet (Name n) (Number z) = ⊥
-MaySet (Active c) (Number z) = ⊥
+-- a number is one of the sixteen categories
+abbrev pub IsCategory : ℤ → Type 0
+IsCategory (pos n) = n ≤ INVALID
+IsCategory (negsuc n) = ⊥
+
+-- a number is the code of a character
+abbrev pub IsCode : ℤ → Type 0
+IsCode (pos n) = IsScalar n
+IsCode (negsuc n) = ⊥
+
+-- kinds of values
+abbrev pub IsMeaning : {N T : Type 0} → Value N T → Type 0
+IsMeaning (values.Means m) = Unit {0}
+IsMeaning v = ⊥
+
+abbrev pub IsNumber : {N T : Type 0} → (ℤ → Type 0) → Value N T → Type 0
+IsNumber P (values.Number z) = P z
+IsNumber P v = ⊥
+
+abbrev pub IsCount : {N T : Type 0} → Value N T → Type 0
+IsCount (values.Number z) = IsWithin z
+IsCount values.Absent = Unit {0}
+IsCount v = ⊥
+
+abbrev pub IsGlue : {N T : Type 0} → Value N T → Type 0
+IsGlue (values.Glue g) = IsGlueWithin g
+IsGlue v = ⊥
+
+abbrev pub IsList : {N T : Type 0} → Value N T → Type 0
+IsList (values.List list) = Unit {0}
+IsList v = ⊥
+
+abbrev pub IsParent : {N T : Type 0} → Value N T → Type 0
+IsParent (values.Parent p) = Unit {0}
+IsParent v = ⊥
 
 -- the value is one of the key's kind
-abbrev pub IsOfKind : Key → Value → Type 0
-IsOfKind (Name n) (Means m) = Unit {0}
-IsOfKind (Active c) (Means m) = Unit {0}
-IsOfKind (Name n) (Number z) = ⊥
-IsOfKind (Active c) (Number z) = ⊥
+abbrev pub IsOfKind : {N T : Type 0} → KeyOf N → Value N T → Type 0
+IsOfKind (Name n) v = IsMeaning v
+IsOfKind (Active c) v = IsMeaning v
+IsOfKind (Cat c) v = IsNumber IsCategory v
+IsOfKind (Lower c) v = IsNumber IsCode v
+IsOfKind (Upper c) v = IsNumber IsCode v
+IsOfKind (Count n) v = IsNumber IsWithin v
+IsOfKind (Dimen n) v = IsNumber IsWithin v
+IsOfKind (Skip n) v = IsGlue v
+IsOfKind (Toks n) v = IsList v
+IsOfKind EscapeChar v = IsNumber IsWithin v
+IsOfKind EndLineChar v = IsNumber IsWithin v
+IsOfKind (Counter n) v = IsCount v
+IsOfKind (Within n) v = IsParent v
+IsOfKind CurrentLabel v = IsList v
+
+-- of the code
+
+abbrev pub World : Type 0
+World = WorldOf NameCode TokenCode
+
+-- the key isn't the fixed \relax
+abbrev pub IsFree : KeyOf NameCode → Type 0
+IsFree (Name n) = 1 ≤ n.0
+IsFree k = Unit {0}
+
+abbrev pub MaySet : KeyOf NameCode → Value NameCode TokenCode → Type 0
+MaySet k v = IsFree k × IsOfKind k v
 
 -- each value is one of its key's kind
-abbrev pub AreOfKind : (Key → Value) → Type 0
-AreOfKind f = (k : Key) → IsOfKind k (f k)
+abbrev pub AreOfKind : (KeyOf NameCode → Value NameCode TokenCode) → Type 0
+AreOfKind f = (k : KeyOf NameCode) → IsOfKind k (f k)
 
 pub record WorldIsOfKind (w : World) : Type 0 where
   pub top : AreOfKind w.top
   pub groups : All (λ g. AreOfKind g.below) w.groups
-
--- the number that a value is, if it is one
-abbrev pub number_in : Value → Option ℤ
-number_in (Means m) = None
-number_in (Number z) = Some z
-
--- the after-tokens, or why the group can't end
-abbrev pub answer_of : Result (List Token) ScopeFault → Result (List Token) (EndFault GroupKind)
-answer_of (Ok after) = Ok after
-answer_of (Err faults.NoGroup) = Err NoGroup
-answer_of (Err (faults.WrongGroup kind)) = Err (WrongGroup kind)
-
--- the values in a list of entries: a key that it lacks has its starting value
-abbrev pub look : List (Key × Value) → Key → Value
-look entries = λ q. unwrap_or (lookup (same_key q) entries) (starting q)
-
-abbrev pub open_of : Level → Open Key Value Token GroupKind
-open_of level = record { kind = level.kind; after = level.after; below = look level.below }
-
--- the world of what a scope shows: the entries of the innermost group, and the levels around it, the innermost first
-abbrev pub world_of : List (Key × Value) × List Level → World
-world_of s = record { top = look s.0; groups = map open_of s.1 }

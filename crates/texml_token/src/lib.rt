@@ -7,21 +7,25 @@
 //! It stands on the standard library alone.
 #![tactic(auto)]
 
+mod byte_list;
 mod bytes;
 pub mod category;
 mod fault;
 pub mod fault_code;
 mod line;
 mod names;
+mod pieces;
 mod spelling;
 mod tokens;
 
+pub use byte_list::ByteList;
 pub use bytes::Bytes;
 pub use fault::Fault;
 pub use line::Line;
 pub use names::Names;
+pub use pieces::{MOST_PARAMETERS, Params, ParamsOf, Piece, PieceOf, Pieces, same_params};
 pub use spelling::{show, spell};
-pub use tokens::{Name, Token, Tokens};
+pub use tokens::{Name, Token, Tokens, same_tokens};
 
 #[cfg(test)]
 mod tests;
