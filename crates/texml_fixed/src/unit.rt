@@ -59,7 +59,7 @@ fn converted(whole: u64, fraction: u64, ratio: (u64, u64)) -> u64
     requires low { 0 < ratio.1 }
     requires high { ratio.1 ≤ 65536 }
     requires bounded { ratio.0 ≤ 32768 * ratio.1 }
-    ensures value { result ≡ (65536 * whole + fraction) * ratio.0 / ratio.1 }
+    ensures { result ≡ (65536 * whole + fraction) * ratio.0 / ratio.1 }
 {
     let (numerator, denominator) = ratio;
     let product = whole * numerator;

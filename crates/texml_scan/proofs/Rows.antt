@@ -1,13 +1,18 @@
 -- The grammars on small texts.
 use Rattle.std.proofs.Common.{◌≡◌, ℕ, pos, negsuc, true, false, Some, None, List, [], ◌∷◌, ◌++◌, map, refl, codes, ◌==◌, ◌&&◌, ◌||◌, if◌then◌else◌, nat_le}
 use Rattle.texml_fixed.specs.declared.scaled.Scaled.{Scaled}
-use Rattle.texml_fixed.specs.declared.glue.Glue.{Glue}
 use Rattle.texml_fixed.specs.declared.glue.Order.TheVariants.{Pt, Fil, Fill}
 use Rattle.texml_fixed.specs.Glue.{glue_of}
 use Rattle.texml_scan.specs.declared.looks.Look.{Look}
 use Rattle.texml_scan.specs.declared.looks.Look.TheVariants.{End, Character, Other}
 use Rattle.texml_scan.specs.declared.looks.Quantity.TheVariants as quantity
 use Rattle.texml_scan.specs.declared.steps.ScanFault.TheVariants.{MissingNumber, TooBig, TooLarge, IllegalUnit}
+use Rattle.texml_token.specs.Token.{Active, Named, Fixed}
+use Rattle.texml_scope.specs.declared.builtins.TheConstants.{SKIP}
+use Rattle.texml_scope.specs.declared.values.KeyOf.TheVariants.{Toks}
+use Rattle.texml_scope.specs.declared.values.MeaningOf.TheVariants as meaning
+use Rattle.texml_scan.specs.declared.looks.Held.TheVariants as held
+use Rattle.texml_scan.specs.Looked.{look_of}
 use Rattle.texml_scan.specs.Grammar.{Wanting, Decided, Faulty, Raw, Expanded, Asked, verdict}
 use Rattle.texml_scan.specs.Number.{number}
 use Rattle.texml_scan.specs.Keyword.{keyword}
@@ -20,6 +25,21 @@ typed = map (λ c. Character c (if c == 32 then 10 else if nat_le 65 c && nat_le
 
 abbrev pub sp : ℕ → Scaled
 sp n = record { 0 = pos n }
+
+-- ---- looks
+
+name_of_one_character : look_of {N = ℕ} {M = ℕ} (Named (codes "%")) meaning.Undefined held.Nothing ≡ Other (Some 37) quantity.Plain
+name_of_one_character = refl
+
+-- the fixed name is no name of one character, whatever it means
+fixed_name : look_of {N = ℕ} {M = ℕ} Fixed (meaning.Number 65) held.Nothing ≡ Other None quantity.Unread
+fixed_name = refl
+
+register_is_asked_for : look_of {N = ℕ} {M = ℕ} (Named (codes "skip")) (meaning.Builtin SKIP) held.Nothing ≡ Other None quantity.Unread
+register_is_asked_for = refl
+
+list_is_no_quantity : look_of {N = ℕ} {M = ℕ} (Active 126) (meaning.Quantity (Toks 7)) held.Nothing ≡ Other (Some 126) quantity.Plain
+list_is_no_quantity = refl
 
 -- ---- numbers
 

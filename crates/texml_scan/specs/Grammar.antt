@@ -99,6 +99,14 @@ IsLast (step.Done v) = Unit {0}
 IsLast (step.DoneBack v n) = 1 ≤ n
 IsLast (step.Fault f) = Unit {0}
 
+-- an answer that puts something back where it says that it does
+abbrev pub PutsSome : {V : Type 0} → ScanStep V → Type 0
+PutsSome step.More = Unit {0}
+PutsSome step.Ask = Unit {0}
+PutsSome (step.Done v) = Unit {0}
+PutsSome (step.DoneBack v n) = 1 ≤ n
+PutsSome (step.Fault f) = Unit {0}
+
 -- an answer that puts back one look, if any
 abbrev pub PutsOne : {V : Type 0} → ScanStep V → Type 0
 PutsOne step.More = Unit {0}

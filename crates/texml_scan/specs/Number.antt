@@ -1,5 +1,8 @@
 -- Numbers (The TeXbook, chapter 24).
-use Rattle.std.specs.Prelude.{ℕ, ℤ, pos, neg_ℤ, ◌+◌, ◌*◌, Bool, true, false, [], ◌∷◌, Option, Some, None, if◌then◌else◌, int_le, ◌&&◌}
+use Rattle.std.specs.Prelude.{ℕ, ℤ, pos, neg_ℤ, ◌+◌, ◌*◌, Bool, true, false, [], ◌∷◌, Option, Some, None, if◌then◌else◌, int_le, ◌&&◌, Result, Ok, Err, unsigned_abs}
+use Rattle.texml_fixed.specs.declared.fault.NumFault.{NumFault}
+use Rattle.texml_fixed.specs.declared.fault.NumFault.TheVariants.{TooBig as NumTooBig}
+use Rattle.texml_fixed.specs.Arithmetic.{bounded}
 use Rattle.texml_fixed.specs.declared.arithmetic.TheConstants.{MAX_NUMBER}
 use Rattle.texml_scan.specs.declared.looks.Look.{Look}
 use Rattle.texml_scan.specs.declared.looks.Start.{Start}
@@ -24,12 +27,13 @@ one_space a [] = Wants Expanded
 one_space a (x ∷ xs) = if is_space x then Gives a xs else Gives a (x ∷ xs)
 
 -- a number with one more digit, up to the bound
-abbrev pub grown : ℕ → Turn ℕ
-grown n = if is_within (pos n) then On n else Bad TooBig
+abbrev pub grown : Result ℤ NumFault → Turn ℕ
+grown (Ok n) = On (unsigned_abs n)
+grown (Err fault) = Bad TooBig
 
 abbrev pub digit_more : ℕ → ℕ → Option ℕ → Turn ℕ
 digit_more radix n None = Stop
-digit_more radix n (Some d) = grown (n * radix + d)
+digit_more radix n (Some d) = grown (bounded NumTooBig MAX_NUMBER (pos (n * radix + d)))
 
 abbrev pub digit_turn : ℕ → ℕ → Look → Turn ℕ
 digit_turn radix n x = digit_more radix n (digit_of radix x)

@@ -2,7 +2,7 @@
 
 ghost use Rattle.std.specs.Prelude.{◌≡◌, ◌∷◌, [], ◌<◌, List, None};
 ghost use Rattle.texml_fixed.specs.declared.glue.Glue.{Glue};
-ghost use Rattle.texml_scan.specs.Grammar.{Remainder, said, Ends, AtEnd, OnAsk, verdict};
+ghost use Rattle.texml_scan.specs.Grammar.{Remainder, said, Ends, AtEnd, OnAsk, PutsSome, verdict};
 ghost use Rattle.texml_scan.specs.Glue.{glue, internal_glue, glue_opened, known_glue, stretched, shrunk};
 
 use crate::keyword::Letter;
@@ -26,7 +26,7 @@ enum Part {
     Shrink,
 }
 
-/// A scanner of glue.
+/// A scanner of glue: a dimension with what it may stretch and shrink by, or an internal glue.
 #[derive(Clone, Copy, Debug)]
 pub struct GlueScan {
     part: Part,
@@ -56,6 +56,7 @@ fn internal_glue(look: Look) -> Option<Glue>
 fn known_glue(negative: bool, glue: Glue) -> ScanStep<Glue>
     ensures said { (rest : Remainder Glue) (more : List Look) → verdict (known_glue negative glue more) ≡ said result rest more }
     ensures asked { OnAsk result ⊥ }
+    ensures back { PutsSome result }
 {
     if glue.width.0 < -MAX_NUMBER || glue.stretch.0 < -MAX_NUMBER || glue.shrink.0 < -MAX_NUMBER {
         ScanStep::Fault(ScanFault::TooLarge)
@@ -88,6 +89,7 @@ impl GlueScan {
     fn step(&mut self, look: Look) -> ScanStep<Glue>
         ensures said { (more : List Look) → glue_rest self.old (look ∷ more) ≡ said result (glue_rest self.new) more }
         ensures ends { AtEnd look (Ends result) }
+        ensures back { PutsSome result }
     {
         match self.part {
             Part::Signs => match sign_turn(self.negative, look) {
@@ -111,6 +113,7 @@ impl GlueScan {
         requires { AtEnd look (glue ≡ None) }
         ensures said { (more : List Look) → verdict (glue_opened self.old.negative glue look more) ≡ said result (glue_rest self.new) more }
         ensures ends { AtEnd look (Ends result) }
+        ensures back { PutsSome result }
     {
         match glue {
             Some(glue) => known_glue(self.negative, glue),
@@ -127,6 +130,7 @@ impl GlueScan {
         requires { self.old.part ≡ Part.Width }
         ensures said { (more : List Look) → verdict (width_left self.old.inner (look ∷ more)) ≡ said result (glue_rest self.new) more }
         ensures ends { AtEnd look (Ends result) }
+        ensures back { PutsSome result }
     {
         match self.inner.feed(look) {
             ScanStep::More => ScanStep::More,
@@ -170,6 +174,7 @@ impl GlueScan {
         requires { self.old.part ≡ Part.Plus }
         ensures said { (more : List Look) → verdict (plus_left self.old.plus_at self.old.width (look ∷ more)) ≡ said result (glue_rest self.new) more }
         ensures ends { AtEnd look (Ends result) }
+        ensures back { PutsSome result }
     {
         match Letter::at(&PLUS, self.plus_at, look) {
             Letter::Skipped => ScanStep::More,
@@ -202,6 +207,7 @@ impl GlueScan {
         requires { self.old.part ≡ Part.Stretch }
         ensures said { (more : List Look) → verdict (stretch_left self.old.inner self.old.width (look ∷ more)) ≡ said result (glue_rest self.new) more }
         ensures ends { AtEnd look (Ends result) }
+        ensures back { PutsSome result }
     {
         match self.inner.feed(look) {
             ScanStep::More => ScanStep::More,
@@ -223,6 +229,7 @@ impl GlueScan {
         requires { self.old.part ≡ Part.Minus }
         ensures said { (more : List Look) → verdict (minus_left self.old.minus_at self.old.width self.old.stretch (look ∷ more)) ≡ said result (glue_rest self.new) more }
         ensures ends { AtEnd look (Ends result) }
+        ensures back { PutsSome result }
     {
         match Letter::at(&MINUS, self.minus_at, look) {
             Letter::Skipped => ScanStep::More,
@@ -248,6 +255,7 @@ impl GlueScan {
         requires { self.old.part ≡ Part.Shrink }
         ensures said { (more : List Look) → verdict (shrink_left self.old.inner self.old.width self.old.stretch (look ∷ more)) ≡ said result (glue_rest self.new) more }
         ensures ends { AtEnd look (Ends result) }
+        ensures back { PutsSome result }
     {
         match self.inner.feed(look) {
             ScanStep::More => ScanStep::More,

@@ -7,19 +7,19 @@ ghost use Rattle.texml_scan.specs.Number.{number, signed, known, digit_more, one
 
 use crate::looks::{Look, Start, Turn, code_of, digit_of, is_space, sign_turn, start_of};
 use crate::steps::{Scan, ScanFault, ScanStep, ended};
-use texml_fixed::MAX_NUMBER;
+use texml_fixed::{MAX_NUMBER, add_digit};
 
 // Where a number is.
 #[derive(Clone, Copy, Debug, PartialEq, Eq)]
 enum Place {
     Signs,
-    First(u32),
-    Digits(u32),
+    First(u8),
+    Digits(u8),
     Quote,
     Space,
 }
 
-/// A scanner of numbers.
+/// A scanner of numbers: signs and spaces, then digits, a backquote with a character, or an internal quantity.
 #[derive(Clone, Copy, Debug)]
 pub struct IntScan {
     place: Place,
@@ -47,19 +47,16 @@ fn signed_natural(negative: bool, value: u32) -> i32
 }
 
 // A number with one more digit.
-pub(crate) fn digit_more(radix: u32, value: u32, digit: Option<u8>) -> Turn<u32>
+pub(crate) fn digit_more(radix: u8, value: u32, digit: Option<u8>) -> Turn<u32>
+    requires { value ≤ 2147483647 }
     ensures { result ≡ digit_more radix value digit }
 {
     match digit {
         None => Turn::Stop,
-        Some(digit) => {
-            let more = u64::from(value) * u64::from(radix) + u64::from(digit);
-            if more <= MAX_NUMBER as u64 {
-                Turn::On(more as u32)
-            } else {
-                Turn::Bad(ScanFault::TooBig)
-            }
-        }
+        Some(digit) => match add_digit(value as i32, i32::from(radix), i32::from(digit)) {
+            Ok(more) => Turn::On(more.unsigned_abs()),
+            Err(_) => Turn::Bad(ScanFault::TooBig),
+        },
     }
 }
 
@@ -166,7 +163,7 @@ impl IntScan {
     }
 
     // The first digit, behind ' or ".
-    fn first(&mut self, radix: u32, digit: Option<u8>) -> ScanStep<i32>
+    fn first(&mut self, radix: u8, digit: Option<u8>) -> ScanStep<i32>
         ensures stepped { (look : Look) (more : List Look) → first_by self.old.negative radix digit more ≡ stepped result (number_rest self.new) look more }
         ensures one { PutsOne result }
         ensures within { OnValue result IsWithin }
@@ -184,7 +181,7 @@ impl IntScan {
     }
 
     // A further digit, or what comes behind them.
-    fn digit(&mut self, radix: u32, look: Look) -> ScanStep<i32>
+    fn digit(&mut self, radix: u8, look: Look) -> ScanStep<i32>
         ensures stepped { (more : List Look) → digits self.old.negative radix self.old.value (look ∷ more) ≡ stepped result (number_rest self.new) look more }
         ensures one { PutsOne result }
         ensures within { OnValue result IsWithin }

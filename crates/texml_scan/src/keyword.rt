@@ -8,7 +8,8 @@ ghost use Rattle.texml_scan.specs.Looks.{is_space};
 use crate::looks::{Look, is_space};
 use crate::steps::{Scan, ScanStep, ended};
 
-/// A scanner of one keyword.
+/// A scanner of one keyword, whose letters may be of either case and of any category; spaces before it are
+/// skipped, and stay skipped where it isn't there.
 #[derive(Clone, Copy, Debug)]
 pub struct KeywordScan<'a> {
     word: &'a [u8],
@@ -65,7 +66,7 @@ impl Letter {
 impl<'a> KeywordScan<'a> {
     ghost use Rattle.texml_scan.specs.KeywordRest.{keyword_rest};
 
-    /// A scanner that has seen nothing.
+    /// A scanner that has seen nothing, of a word of 1 to 255 small letters.
     pub fn new(word: &'a [u8]) -> KeywordScan<'a>
         requires some { 1 ≤ length word.now }
         requires short { length word.now ≤ 255 }

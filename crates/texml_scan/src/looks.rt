@@ -42,7 +42,7 @@ pub enum Look {
 #[derive(Clone, Copy, Debug, PartialEq, Eq)]
 pub(crate) enum Start {
     Digit(u8),
-    Radix(u32),
+    Radix(u8),
     Quote,
     Known(i32),
     Unread,
@@ -68,12 +68,12 @@ pub(crate) fn is_space(look: Look) -> bool
 }
 
 // The value of a digit to this radix.
-pub(crate) fn digit_of(radix: u32, look: Look) -> Option<u8>
+pub(crate) fn digit_of(radix: u8, look: Look) -> Option<u8>
     ensures { result ≡ digit_of radix look }
 {
     match look {
         Look::Character(code, category) => {
-            if category == OTHER && ZERO <= code && code <= NINE && code - ZERO < radix {
+            if category == OTHER && ZERO <= code && code <= NINE && code - ZERO < u32::from(radix) {
                 Some((code - ZERO) as u8)
             } else if radix == 16
                 && (category == LETTER || category == OTHER)

@@ -35,7 +35,7 @@ enum Spot {
     Space,
 }
 
-/// A scanner of dimensions, or where that is said of amounts that may be fil.
+/// A scanner of dimensions or, where `fil` says so, of amounts that may be of a higher order.
 #[derive(Clone, Copy, Debug)]
 pub(crate) struct Measuring {
     spot: Spot,
@@ -433,7 +433,7 @@ impl Measuring {
     }
 }
 
-/// A scanner of dimensions.
+/// A scanner of dimensions: signs and spaces, then a number with a unit, or an internal dimension.
 #[derive(Clone, Copy, Debug)]
 pub struct DimenScan {
     inner: Measuring,

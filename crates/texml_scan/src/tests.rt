@@ -1,7 +1,13 @@
 //! Texts that are scanned, one character after the other, by one loop for all scanners.
 
-use crate::{DimenScan, GlueScan, IntScan, KeywordScan, Look, Scan, ScanFault, ScanStep};
+use crate::{
+    DimenScan, GlueScan, Held, IntScan, KeywordScan, Look, Quantity, Scan, ScanFault, ScanStep,
+    looked_at,
+};
+use std::test::Fail;
 use texml_fixed::{Amount, Glue, Order, Scaled};
+use texml_scope::{Key, Meaning, builtins};
+use texml_token::{Line, Names, Token};
 
 // A character with the category that it has at first.
 fn typed(byte: u8) -> Look {
@@ -91,4 +97,40 @@ fn glue_and_keywords_are_scanned(rt: HostRuntime) {
         scanned(KeywordScan::new(b"by"), b" bx"),
         ScanStep::DoneBack(false, 2)
     );
+}
+
+#[test]
+fn tokens_are_looked_at(rt: HostRuntime) -> Result<(), Fail> {
+    let alloc = rt.alloc();
+    let mut names = Names::new(alloc);
+    let token = Token::Named(names.intern(&Line::from_slice(alloc, &[37])?)?);
+    let plain = Look::Other(Some(37), Quantity::Plain);
+    let unread = Look::Other(Some(37), Quantity::Unread);
+    let count = Meaning::Builtin(builtins::COUNT);
+    assert_eq!(rt;
+        looked_at(&names, token, &Meaning::Undefined, Held::Nothing),
+        plain
+    );
+    assert_eq!(rt; looked_at(&names, token, &count, Held::Nothing), unread);
+    assert_eq!(rt;
+        looked_at(
+            &names,
+            token,
+            &Meaning::Quantity(Key::Skip(1)),
+            Held::Nothing
+        ),
+        unread
+    );
+    assert_eq!(rt;
+        looked_at(
+            &names,
+            token,
+            &Meaning::Quantity(Key::Toks(1)),
+            Held::Nothing
+        ),
+        plain
+    );
+    let held = Look::Other(Some(37), Quantity::Int(5));
+    assert_eq!(rt; looked_at(&names, token, &count, Held::Int(5)), held);
+    Ok(())
 }
