@@ -1,0 +1,4 @@
+pub mod Refs
+pub mod Linked
+pub mod Links
+pub mod Found
