@@ -1,5 +1,5 @@
 -- Links of references.
-use Rattle.std.proofs.Common.{◌≡◌, ◌∙◌, ap, sym, subst, ℕ, ◌+◌, ◌<◌, List, [], ◌∷◌, ◌++◌, length, map, take, get_or, Option}
+use Rattle.std.proofs.Common.{◌≡◌, ◌∙◌, ap, sym, subst, ℕ, ◌+◌, ◌<◌, List, [], ◌∷◌, ◌++◌, length, map, take, get_or, Option, Some}
 use Rattle.std.specs.Option.{option_map, option_and_then}
 use Rattle.std.proofs.lemmas.List.{map-append, take_more}
 use Rattle.std.proofs.lemmas.Simd.{map-map}
@@ -8,8 +8,9 @@ use Rattle.texml_tree.specs.Tree.{Head, Tree}
 use Rattle.texml_xref.specs.declared.owners.Link.{Link as LinkCode}
 use Rattle.texml_xref.specs.declared.owners.Owners.{Owners}
 use Rattle.texml_xref.specs.declared.walk.Found.{Found}
-use Rattle.texml_xref.specs.Refs.{heads, link_in, placed}
+use Rattle.texml_xref.specs.Refs.{LinkedTree, heads, ids_in, link_at, link_in, placed}
 use Rattle.texml_xref.specs.Links.{link_of, links_of, kept_owner}
+use Rattle.texml_xref.proofs.Owning.{link_within}
 use Rattle.texml_xref.specs.Found.{targets_of, HasFound}
 
 pub linked_more : (owners : Owners) (targets : List (Option (Bor (List ℕ)))) (i : ℕ) (target : Option (Bor (List ℕ))) (links : List (Option LinkCode)) (link : Option LinkCode) → i < length targets → target ≡ get_or targets i target
@@ -36,3 +37,6 @@ links_found reference section found hs links targets has e h =
 pub found_of : (reference section : Option ℕ) (old new : Found) (root tree : Tree) → HasFound reference section old [] → root ≡ tree
     → ((hs : List Head) → HasFound reference section old hs → HasFound reference section new (hs ++ heads root)) → HasFound reference section new (heads tree)
 found_of reference section old new root tree none e walk = subst (λ (t : Tree). HasFound reference section new (heads t)) e (walk [] none)
+
+pub link_owner : (l : LinkedTree) (at : ℕ) (link : LinkCode) (seen : Option LinkCode) → option_map link_of seen ≡ link_at l at → seen ≡ Some link → link.owner < ids_in l
+link_owner l at link seen h e = link_within l at (link_of link) (sym h ∙ ap (option_map link_of) e)

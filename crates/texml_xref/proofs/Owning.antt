@@ -1,7 +1,8 @@
 -- Owners of labels, one element and one mark after the other.
-use Rattle.std.proofs.Common.{arith, ◌≡◌, ◌∙◌, ap, sym, refl, ℕ, suc, ◌+◌, ◌<◌, ◌≤◌, Bool, true, false, cond, List, [], ◌∷◌, ◌++◌, length, map, take, get_or, Option, None, Some, if◌then◌else◌, append-nil}
+use Rattle.std.proofs.Common.{arith, ◌≡◌, ◌∙◌, ap, sym, subst, refl, ℕ, zero, suc, unwrap_or, ◌+◌, ◌<◌, ◌≤◌, Bool, true, false, cond, List, [], ◌∷◌, ◌++◌, length, map, take, get_or, Option, None, Some, if◌then◌else◌, append-nil}
 use Rattle.std.specs.Prelude.{find}
-use Rattle.std.specs.Option.{option_map, option_or}
+use Rattle.std.specs.List.{slice_get}
+use Rattle.std.specs.Option.{option_map, option_or, option_and_then}
 use Rattle.std.proofs.lemmas.List.{map-append, length-append, reverse-append, take_more, take_all}
 use Rattle.std.proofs.lemmas.List.Elements.{filter-append}
 use Rattle.std.proofs.lemmas.List.FromFn.{map-range_with_len_more, length-map-range_with_len, get_or-map-range_with_len}
@@ -10,7 +11,7 @@ use Rattle.texml_tree.specs.declared.tree.Tag.{Tag}
 use Rattle.texml_tree.specs.Tree.{Mark, Head}
 use Rattle.texml_tree.specs.Plain.{mark_of as plain_mark}
 use Rattle.texml_xref.specs.declared.owners.Owners.{Owners}
-use Rattle.texml_xref.specs.Refs.{Link, id_of, identified, mark_of, link_to, owner_from, owner_in}
+use Rattle.texml_xref.specs.Refs.{Link, LinkedTree, elements_of, ids_in, id_of, identified, link_at, link_in, mark_of, link_to, owner_from, owner_in, placed}
 use Rattle.texml_xref.specs.Links.{kept_owner, ids_upto}
 use Rattle.texml_xref.specs.Found.{HasOwners}
 
@@ -106,3 +107,31 @@ length-ids_upto n = length-map-range_with_len id_of 0 n
 
 pub id_at : (n at : ℕ) (ids : List (List ℕ)) (id : List ℕ) → ids ≡ ids_upto n → at < n → id ≡ get_or ids at id → id ≡ id_of at
 id_at n at ids id e l h = h ∙ ap (λ x. get_or x at id) e ∙ get_or-map-range_with_len id_of 0 n at at id l (omega arith)
+
+-- an owner has one of the ids
+
+later_within : (place n : ℕ) (a b : Option Link) → ((link : Link) → a ≡ Some link → link.owner < n) → ((link : Link) → b ≡ Some link → link.owner < n) → (link : Link) → option_or a b ≡ Some link → link.owner < n
+later_within place n None b f g link h = g link h
+later_within place n (Some l) b f g link h = f link h
+
+to_within : (place n : ℕ) (o : Option Mark) → place < n → (link : Link) → option_map (at_place place) o ≡ Some link → link.owner < n
+to_within place n None l link h = absurd (cc)
+to_within place n (Some m) l link h = let z : at_place place m ≡ link = cc in subst (λ (x : Link). x.owner < n) z l
+
+owner_within : (place : ℕ) (hs : List Head) (label : List ℕ) (link : Link) → owner_from place hs label ≡ Some link → link.owner < place + length hs
+owner_within place [] label link h = absurd (cc)
+owner_within place (x ∷ hs) label link h = later_within place (place + suc (length hs)) (owner_from (place + 1) hs label) (link_to place label x.marks)
+    (λ l e. let k = owner_within (place + 1) hs label l e in omega (arith, k))
+    (λ l e. to_within place (place + suc (length hs)) (mark_of label x.marks) (omega arith) l e) link h
+
+link_in_within : (hs : List Head) (o : Option (List ℕ)) (link : Link) → option_and_then (owner_in hs) o ≡ Some link → link.owner < length (identified hs)
+link_in_within hs None link h = absurd (cc)
+link_in_within hs (Some label) link h = let k = owner_within 0 (identified hs) label link h in omega (arith, k)
+
+links_within : (hs xs : List Head) (at : ℕ) (link : Link) → unwrap_or (slice_get (map (link_in hs) xs) at) None ≡ Some link → link.owner < length (identified hs)
+links_within hs [] at link h = absurd (cc)
+links_within hs (x ∷ xs) zero link h = link_in_within hs x.target link h
+links_within hs (x ∷ xs) (suc at) link h = links_within hs xs at link h
+
+pub link_within : (l : LinkedTree) (at : ℕ) (link : Link) → link_at l at ≡ Some link → link.owner < ids_in l
+link_within l at link h = links_within (elements_of l) (placed l.reference (elements_of l)) at link h

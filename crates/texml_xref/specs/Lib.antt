@@ -2,3 +2,4 @@ pub mod Refs
 pub mod Linked
 pub mod Links
 pub mod Found
+pub mod Small

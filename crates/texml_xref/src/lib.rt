@@ -13,3 +13,6 @@ mod walk;
 
 pub use linked::Linked;
 pub use linking::resolve;
+
+#[cfg(test)]
+mod tests;

@@ -1,6 +1,6 @@
 //! A tree whose references are linked.
 
-ghost use Rattle.std.specs.Prelude.{◌≡◌, length, map};
+ghost use Rattle.std.specs.Prelude.{◌≡◌, ◌<◌, ◌^◌, length, map};
 ghost use Rattle.texml_tree.specs.Plain.{tree_of};
 ghost use Rattle.texml_xref.specs.Refs.{heads, identified, link_in, placed};
 ghost use Rattle.texml_xref.specs.Links.{links_of, place_of, ids_upto};
@@ -19,13 +19,16 @@ pub struct Linked<'a> {
     pub(crate) links: Vec<Option<Link<'a>>>,
     pub ghost ids_are: { ids.items ≡ ids_upto (length (identified (heads (tree_of tree)))) },
     pub ghost links_are: { links_of links.items ≡ map (link_in (heads (tree_of tree))) (placed (place_of reference) (heads (tree_of tree))) },
+    pub ghost few_ids: { length (identified (heads (tree_of tree))) < 2 ^ 64 },
+    pub ghost few_links: { length (placed (place_of reference) (heads (tree_of tree))) < 2 ^ 64 },
 }
 
 impl<'a> Linked<'a> {
-    ghost use Rattle.std.specs.Prelude.{◌<◌, IsSome, IfSome, count_by, is_none};
+    ghost use Rattle.std.specs.Prelude.{IsSome, IfSome, count_by, is_none};
     ghost use Rattle.std.specs.Option.{option_map};
     ghost use Rattle.texml_xref.specs.Refs.{id_of, ids_in, links_in, link_at};
     ghost use Rattle.texml_xref.specs.Linked.{linked_of};
+    ghost use Rattle.texml_xref.specs.Links.{link_of};
 
     /// The tree.
     pub fn tree(&self) -> &Tree<'a>
@@ -67,9 +70,10 @@ impl<'a> Linked<'a> {
     /// nowhere. References are counted from 0 in document order.
     pub fn owner(&self, at: u64) -> Option<u64>
         requires { at < length (links_in (linked_of self.now)) }
-        ensures { result ≡ option_map (λ link. link.owner) (link_at (linked_of self.now) at) }
+        ensures value { result ≡ option_map (λ link. link.owner) (link_at (linked_of self.now) at) }
+        ensures within { IfSome result (λ owner. owner < ids_in (linked_of self.now)) }
     {
-        match &self.links[at as usize] {
+        match self.link(at) {
             None => None,
             Some(link) => Some(link.owner),
         }
@@ -84,5 +88,13 @@ impl<'a> Linked<'a> {
             None => &[],
             Some(link) => link.number,
         }
+    }
+
+    /// Where a reference leads.
+    fn link(&self, at: u64) -> Option<Link<'a>>
+        requires { at < length (links_in (linked_of self.now)) }
+        ensures { option_map link_of result ≡ link_at (linked_of self.now) at }
+    {
+        self.links[at as usize]
     }
 }
