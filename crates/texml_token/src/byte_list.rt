@@ -1,4 +1,4 @@
-//! A list of lists of bytes.
+//! A list of byte strings.
 
 ghost use Rattle.std.specs.Prelude.{◌≡◌, [], ◌∷◌, ◌++◌, OnOk, OnErr};
 
@@ -6,7 +6,7 @@ use crate::bytes::Bytes;
 use std::alloc::{AllocError, Global};
 use std::marker::Model;
 
-/// A list of lists of bytes.
+/// A list of byte strings.
 #[derive(Debug, Drop)]
 pub struct ByteList {
     items: Vec<Bytes>,
@@ -30,7 +30,7 @@ impl ByteList {
         }
     }
 
-    /// Appends a list of bytes.
+    /// Appends a byte string.
     ///
     /// # Errors
     ///
@@ -43,7 +43,7 @@ impl ByteList {
         Ok(())
     }
 
-    /// The lists of bytes, the first in front.
+    /// The byte strings, the first in front.
     pub fn as_slice(&self) -> &[Bytes]
         ensures { result.now ≡ self.now }
     {

@@ -14,6 +14,7 @@ mod fault;
 pub mod fault_code;
 mod line;
 mod names;
+mod pieces;
 mod spelling;
 mod tokens;
 
@@ -22,8 +23,9 @@ pub use bytes::Bytes;
 pub use fault::Fault;
 pub use line::Line;
 pub use names::Names;
+pub use pieces::{MOST_PARAMETERS, Params, ParamsOf, Piece, PieceOf, Pieces, same_params};
 pub use spelling::{show, spell};
-pub use tokens::{Name, Token, Tokens};
+pub use tokens::{Name, Token, Tokens, same_tokens};
 
 #[cfg(test)]
 mod tests;
