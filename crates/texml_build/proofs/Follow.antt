@@ -8,7 +8,8 @@ use Rattle.texml_tree.specs.declared.ops.Op.{Op}
 use Rattle.texml_tree.specs.declared.model_fault.ModelFault.{ModelFault}
 use Rattle.texml_tree.specs.declared.model_fault.TheConstants.{NO_PLACE, NOTHING_TO_CLOSE, UNCLOSED, BAD_ATTRIBUTE, TREE_DEPTH}
 use Rattle.texml_tree.specs.Tree.{Set, Mark, Tree, text, element}
-use Rattle.texml_model.specs.Rules.{Rules, places_of}
+use Rattle.texml_model.specs.Levels.{places_of}
+use Rattle.texml_model.specs.Rules.{Rules}
 use Rattle.texml_build.specs.declared.fault.BuildFault.{BuildFault}
 use Rattle.texml_build.specs.declared.fault.BuildFault.TheVariants.{Model, NoMemory}
 use Rattle.texml_build.specs.Answer.{Builds}

@@ -10,7 +10,9 @@ use Rattle.texml_tree.specs.declared.tree.Tree.{Tree as TreeCode}
 use Rattle.texml_tree.specs.Tree.{Mark, trees}
 use Rattle.texml_tree.specs.Plain.{tree_of}
 use Rattle.texml_model.specs.Chain.{Leads}
-use Rattle.texml_model.specs.Rules.{Rules, VoidIsEmpty, Sound, holding_of}
+use Rattle.texml_tree.specs.declared.table.Elements.{Elements}
+use Rattle.texml_model.specs.Rules.{Rules, VoidIsEmpty, IsContentModel, holding_of, rules_of}
+use Rattle.texml_model.proofs.Models.{rules_sound, void_is_empty, root_named}
 use Rattle.texml_build.specs.declared.fault.BuildFault.{BuildFault}
 use Rattle.texml_build.specs.Answer.{Builds}
 use Rattle.texml_build.specs.Brackets.{Bracket, starts, ends, Outcome, Doing, behind, next, both, nothing, each, innermost, fault_of, end_one, end_many, start, start_all, say, fit_or, fit, place, place_by, enter, close_by, none_to_close, one_more, depth_under, depth_of, attr_by, own_attr, holder, holder_or, label, refer, refer_by, step, steps, end_under, end_all, root_of, brackets}
@@ -254,3 +256,6 @@ built_valid r model ops = valid_by r model (brackets r ops) (brackets_good r mod
 pub valid_result : (r : Rules) → IsModel r → (ops : List Op) (result : Result TreeCode BuildFault) → Builds (built r ops) result → IfOk result (λ t. Valid r (tree_of t))
 valid_result r model ops (Ok t) e = subst (IsValid r) e (built_valid r model ops)
 valid_result r model ops (Err f) e = tt
+
+pub model_of : (t : Elements) → IsContentModel t → IsModel (rules_of t)
+model_of t m = record { sound = rules_sound t; void = void_is_empty t m; root = root_named t m }

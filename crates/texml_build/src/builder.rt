@@ -3,7 +3,8 @@
 ghost use Rattle.std.specs.Prelude.{◌≡◌, ◌+◌, ◌-◌, ◌<◌, ◌≤◌, true, get_or, length, [], IfOk, IfSome, OnOk};
 ghost use Rattle.std.specs.Option.{option_map, ForSome};
 ghost use Rattle.texml_tree.specs.Plain.{plain};
-ghost use Rattle.texml_model.specs.Rules.{rules_of, places_of};
+ghost use Rattle.texml_model.specs.Levels.{places_of};
+ghost use Rattle.texml_model.specs.Rules.{IsContentModel, rules_of};
 ghost use Rattle.texml_build.specs.Trim.{texts};
 ghost use Rattle.texml_build.specs.Brackets.{fault_of, innermost, no_place, both, start as spec_start, start_all as spec_start_all, end_one as spec_end_one, end_many as spec_end_many, say as spec_say, fit as spec_fit, place as spec_place, enter as spec_enter, each, root_of, depth_of, close as spec_close, close_if as spec_close_if, space as spec_space, holder as spec_holder, holder_or, attr_by, attr as spec_attr, own_attr as spec_own_attr, owner_of, label as spec_label, refer as spec_refer, step as spec_step, steps, end_all};
 ghost use Rattle.texml_build.specs.Matched.{beginning, whole};
@@ -84,7 +85,8 @@ impl<'a> Open<'a> {
 
 /// The element `document`.
 fn root_elem(content: &Content) -> Elem
-    ensures { result.0 ≡ root_of (rules_of content.now) }
+    ensures value { result.0 ≡ root_of (rules_of content.now) }
+    ensures model { IsContentModel content.now }
 {
     match content.named(b"document") {
         Some(elem) => elem,
@@ -141,7 +143,8 @@ fn close<'a>(arena: &'a Bump, content: &Content, last: Open<'a>) -> Result<Node<
 impl<'a> Builder<'a> {
     /// A builder that has opened the root.
     pub(crate) fn new(alloc: Global, arena: &'a Bump, content: &Content) -> Builder<'a>
-        ensures { held_of result ≡ fresh (rules_of content.now) }
+        ensures held { held_of result ≡ fresh (rules_of content.now) }
+        ensures model { IsContentModel content.now }
     {
         Builder {
             alloc,

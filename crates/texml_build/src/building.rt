@@ -2,10 +2,10 @@
 
 ghost use Rattle.std.specs.Prelude.{IfOk};
 ghost use Rattle.texml_tree.specs.Plain.{tree_of};
-ghost use Rattle.texml_model.specs.Rules.{rules_of};
+ghost use Rattle.texml_model.specs.Rules.{IsContentModel, rules_of};
 ghost use Rattle.texml_build.specs.Matched.{built};
 ghost use Rattle.texml_build.specs.Answer.{Builds};
-ghost use Rattle.texml_build.specs.Valid.{IsModel, Valid, EveryTreeIsValid};
+ghost use Rattle.texml_build.specs.Valid.{Valid, EveryTreeIsValid};
 
 use crate::builder::Builder;
 use crate::fault::BuildFault;
@@ -27,7 +27,7 @@ pub fn build<'a>(
     content: &Content,
 ) -> Result<Tree<'a>, BuildFault>
     ensures value { Builds (built (rules_of content.now) ops.now) result }
-    ensures valid { IsModel (rules_of content.now) → IfOk result (λ tree. Valid (rules_of content.now) (tree_of tree)) }
+    ensures valid { IfOk result (λ tree. Valid (rules_of content.now) (tree_of tree)) }
 {
     grow(alloc, arena, ops, content)
 }
@@ -39,7 +39,8 @@ fn grow<'a>(
     ops: &Ops,
     content: &Content,
 ) -> Result<Tree<'a>, BuildFault>
-    ensures { Builds (built (rules_of content.now) ops.now) result }
+    ensures value { Builds (built (rules_of content.now) ops.now) result }
+    ensures model { IsContentModel content.now }
 {
     let mut builder = Builder::new(alloc, arena, content);
     match builder.perform(content, ops.as_slice()) {

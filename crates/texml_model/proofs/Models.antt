@@ -1,5 +1,7 @@
 -- What holds of every content model.
-use Rattle.std.proofs.Common.{arith, ◌≡◌, ◌∙◌, ap, sym, refl, subst, ℕ, zero, suc, ◌+◌, ◌<◌, ◌≤◌, ◌&&◌, ◌||◌, not, Bool, true, false, IsTrue, List, [], ◌∷◌, length, map, get_or, cond, Option, None, Some, unwrap_or}
+use Rattle.std.proofs.Common.{arith, ◌≡◌, ◌∙◌, ap, sym, refl, subst, ℕ, zero, suc, ◌+◌, ◌<◌, ◌≤◌, ◌&&◌, ◌||◌, not, Bool, true, false, IsTrue, List, [], ◌∷◌, length, map, get_or, cond, nat_lt, Option, None, Some, unwrap_or}
+use Rattle.std.specs.Prelude.{IsSome, codes}
+use Rattle.std.proofs.lemmas.Bool.Decides.{nat_tests}
 use Rattle.std.proofs.lemmas.List.Elements.{All-map}
 use Rattle.std.proofs.lemmas.List.Sums.{AllPass-from_list_all}
 use Rattle.std.specs.Option.{option_map_or}
@@ -70,6 +72,18 @@ flags_is t e line h = (λ i. record {
   void = option_map_or (λ (l : ElementLine). l.flags.void) (sym h i) false;
 })
 
+pub no_flags : (t : Elements) (e : ℕ) → slice_get t.lines e ≡ None → record { text = false; block = false; opens = false; closes = false; id = false; toc = false; void = false } ≡ flags_of (rules_of t) e
+unfolding rules_of
+no_flags t e h = (λ i. record {
+  text = option_map_or (λ (l : ElementLine). l.flags.text) (sym h i) false;
+  block = option_map_or (λ (l : ElementLine). l.flags.block) (sym h i) false;
+  opens = option_map_or (λ (l : ElementLine). l.flags.opens) (sym h i) false;
+  closes = option_map_or (λ (l : ElementLine). l.flags.closes) (sym h i) false;
+  id = option_map_or (λ (l : ElementLine). l.flags.id) (sym h i) false;
+  toc = option_map_or (λ (l : ElementLine). l.flags.toc) (sym h i) false;
+  void = option_map_or (λ (l : ElementLine). l.flags.void) (sym h i) false;
+})
+
 -- the attributes of a line are in the list of attributes
 
 found_within : {A : Type 0} (p : A → Bool) (xs : List A) → list_any p xs ≡ true → position_or_len p xs < length xs
@@ -94,3 +108,16 @@ attrs_known t m e = known_by t (slice_get t.lines e) (λ line g. line_passes (at
 pub attrs_seen : (t v : Elements) (e : ℕ) (seen : List ℕ) → t ≡ v → IsContentModel t → seen ≡ attrs_of t e → All (λ a. a < (rules_of v).attributes) seen
 unfolding rules_of
 attrs_seen t v e seen same m h = subst (λ (x : Elements). All (λ a. a < length x.attributes) seen) same (subst (All (λ a. a < length t.attributes)) (sym h) (attrs_known t m e))
+
+-- the element `document` is there
+
+any_named : (lines : List ElementLine) (name : List ℕ) → lists (map (λ line. line.name) lines) name ≡ list_any (λ line. text_eq line.name name) lines
+any_named [] name = refl
+any_named (l ∷ ls) name = ap (λ b. text_eq l.name name || b) (any_named ls name)
+
+pub root_named : (t : Elements) → IsContentModel t → IsSome ((rules_of t).named (codes "document"))
+unfolding rules_of
+root_named t m =
+    let within = found_within (λ (line : ElementLine). text_eq line.name (codes "document")) t.lines (sym (any_named t.lines (codes "document")) ∙ m.root) in
+    let less : nat_lt (position_or_len (λ (line : ElementLine). text_eq line.name (codes "document")) t.lines) (length t.lines) ≡ true = grind (arith, nat_tests) in
+    rw less refl

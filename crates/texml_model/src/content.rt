@@ -12,6 +12,16 @@ use std::alloc::{AllocError, Global};
 use std::marker::Model;
 use texml_tree::{Elem, ElementLine, Elements, Flags};
 
+const NO_FLAGS: Flags = Flags {
+    text: false,
+    block: false,
+    opens: false,
+    closes: false,
+    id: false,
+    toc: false,
+    void: false,
+};
+
 /// Which element may hold which, and how an element is written: a table of elements, prepared for look-ups.
 #[derive(Drop)]
 pub struct Content {
@@ -97,14 +107,16 @@ impl Content {
         }
     }
 
-    /// The flags of the element.
-    #[tactic(auto, using(crate::proofs::Models::flags_is, crate::proofs::Models::void_is_empty))]
+    /// The flags of the element. An element that the table lacks has none.
+    #[tactic(auto, using(crate::proofs::Models::void_is_empty))]
     pub fn flags(&self, elem: Elem) -> Flags
-        requires { elem.0 < (rules_of self.now).size }
         ensures value { result ≡ flags_of (rules_of self.now) elem.0 }
         ensures void { VoidIsEmpty (rules_of self.now) }
     {
-        self.line(elem).flags
+        match self.find(elem) {
+            None => NO_FLAGS,
+            Some(line) => line.flags,
+        }
     }
 
     /// The tag as which the element is written.
@@ -138,30 +150,43 @@ impl Content {
         row_at(self.attrs.as_slice(), elem.0)
     }
 
-    /// The name of the attribute.
+    /// The name of the attribute, empty where the table lacks it.
     #[tactic(auto, unfolding(crate::specs::Rules::rules_of))]
     pub fn attr_name(&self, attr: usize) -> &[u8]
-        requires { attr < (rules_of self.now).attributes }
         ensures { result.now ≡ (rules_of self.now).attr_name attr }
     {
-        self.elements.attributes.as_slice()[attr].as_slice()
+        match self.elements.attributes.as_slice().get(attr) {
+            None => &[],
+            Some(name) => name.as_slice(),
+        }
     }
 
     /// The element of this name, `None` exactly where the table has none.
     #[tactic(auto, unfolding(crate::specs::Rules::rules_of))]
     pub fn named(&self, name: &[u8]) -> Option<Elem>
-        ensures { option_map (λ e. e.0) result ≡ (rules_of self.now).named name.now }
+        ensures value { option_map (λ e. e.0) result ≡ (rules_of self.now).named name.now }
+        ensures model { IsContentModel self.now }
     {
         place_of(self.elements.lines.as_slice(), name)
     }
 
-    /// The name of the element.
+    /// The name of the element, empty where the table lacks it.
     #[tactic(auto, unfolding(crate::specs::Rules::rules_of))]
     pub fn name(&self, elem: Elem) -> &[u8]
-        requires { elem.0 < (rules_of self.now).size }
         ensures { result.now ≡ (rules_of self.now).name elem.0 }
     {
-        self.line(elem).name.as_slice()
+        match self.find(elem) {
+            None => &[],
+            Some(line) => line.name.as_slice(),
+        }
+    }
+
+    /// The line of the element, if the table has it.
+    fn find(&self, elem: Elem) -> Option<&ElementLine>
+        ensures line { option_map (λ line. line.now) result ≡ slice_get self.now.lines elem.0 }
+        ensures model { IsContentModel self.now }
+    {
+        self.elements.lines.as_slice().get(elem.0)
     }
 
     /// The line of the element.

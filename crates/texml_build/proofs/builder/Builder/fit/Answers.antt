@@ -6,4 +6,4 @@ use Rattle.texml_build.proofs.Paths.{fit_on}
 use Rattle.texml_build.proofs.builder.Builder.fit.Goals as goal
 
 pub loop-n-preserved : goal.loop-n-preserved
-loop-n-preserved c = fit_on (rules_of c.args.content.now) (path_of (held_of c.args.self.now)) _ c.loop-n.n c.elem_at-at.result.0 (simp (length-map, length-reverse) (omega arith)) c.elem_at-at.ensures c.in-None.ensures c.if-not-closes.ensures c.loop-n.invariant
+loop-n-preserved c = fit_on (rules_of c.args.content.now) (path_of (held_of c.args.self.now)) _ c.loop-n.n c.elem_at-at.result.0 (simp (length-map, length-reverse) (omega arith)) c.elem_at-at.ensures c.in-None.ensures.value c.if-not-closes.ensures c.loop-n.invariant

@@ -1,5 +1,6 @@
 use Rattle.std.proofs.Common.{drop}
-use Rattle.texml_model.specs.Rules.{rules_of, places_of}
+use Rattle.texml_model.specs.Levels.{places_of}
+use Rattle.texml_model.specs.Rules.{rules_of}
 use Rattle.texml_build.specs.Brackets.{each, start_all}
 use Rattle.texml_build.specs.Held.{held_of}
 use Rattle.texml_build.proofs.Follow.{Leads, start_elem}
