@@ -1,4 +1,5 @@
 pub mod Token
 pub mod Spelling
+pub mod Pieces
 pub mod Numbers
 pub mod Shared

@@ -3,7 +3,7 @@ use Rattle.std.specs.Prelude.{ℕ, ℤ, pos, negsuc, ◌+◌, List, [], ◌∷�
 use Rattle.std.specs.List.{flat_map}
 use Rattle.std.specs.Char.{is_ascii_alphabetic}
 use lib.Utf8.{scalar}
-use Rattle.texml_token.specs.Token.{Token, Char, Active, Named, Fixed, relax}
+use Rattle.texml_token.specs.Token.{Token, Char, Active, Param, Named, Fixed, relax}
 
 abbrev pub csname : List ℕ
 csname = codes "csname"
@@ -21,10 +21,15 @@ abbrev pub spelled_name : ℤ → List ℕ → List ℕ
 spelled_name escape [] = escape_codes escape ++ csname ++ escape_codes escape ++ endcsname
 spelled_name escape (c ∷ cs) = escape_codes escape ++ c ∷ cs
 
+-- the place of a parameter: # and its digit
+abbrev pub place_codes : ℕ → List ℕ
+place_codes n = 35 ∷ (48 + n) ∷ []
+
 -- what \string gives of a token
 abbrev pub spelled : ℤ → Token → List ℕ
 spelled escape (Char c category) = c ∷ []
 spelled escape (Active c) = c ∷ []
+spelled escape (Param n) = place_codes n
 spelled escape (Named text) = spelled_name escape text
 spelled escape Fixed = spelled_name escape relax
 
@@ -45,6 +50,7 @@ shown_name text = 92 ∷ flat_map shown_code text ++ name_end text
 abbrev pub shown_token : Token → List ℕ
 shown_token (Char c category) = shown_code c
 shown_token (Active c) = shown_code c
+shown_token (Param n) = place_codes n
 shown_token (Named text) = shown_name text
 shown_token Fixed = shown_name relax
 

@@ -3,6 +3,7 @@
 ghost use Rattle.std.specs.Prelude.{◌≡◌, [], ◌∷◌, ◌++◌, OnOk, OnErr};
 
 use std::alloc::{AllocError, Global};
+use std::default::MadeWith;
 use std::marker::Model;
 use std::rc::Rc;
 
@@ -10,12 +11,14 @@ use std::rc::Rc;
 #[derive(Clone, Copy, Debug, PartialEq, Eq, PartialOrd, Ord, Hash)]
 pub struct Name(pub usize);
 
-/// A token: a character with its category, an active character, or a name.
+/// A token: a character with its category, an active character, a name, or, in the body of a macro, the
+/// place of a parameter by its number.
 #[derive(Clone, Copy, Debug, PartialEq, Eq, PartialOrd, Ord, Hash)]
 pub enum Token {
     Char(u32, u8),
     Active(u32),
     Named(Name),
+    Param(u8),
 }
 
 /// A list of tokens whose parts are shared by its clones.
@@ -88,6 +91,14 @@ impl Clone for Tokens {
             alloc: self.alloc,
             shared: self.shared.clone()?,
         })
+    }
+}
+
+impl MadeWith<Global> for Tokens {
+    ghost is_made_with = { λ list. list ≡ [] };
+
+    fn made_with(alloc: Global) -> Tokens {
+        Tokens::new(alloc)
     }
 }
 
