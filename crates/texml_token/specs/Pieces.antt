@@ -1,5 +1,5 @@
 -- Parameter texts of macros (The TeXbook, chapter 20), by what a token T is.
-use Rattle.std.specs.Prelude.{◌≡◌, ◌≤◌, ◌+◌, ℕ, zero, suc, List, [], ◌∷◌, map, Option, None, Some, option_map}
+use Rattle.std.specs.Prelude.{◌≡◌, ◌≤◌, ◌+◌, ℕ, List, [], ◌∷◌, map, Option, None, Some, option_map}
 use Rattle.texml_token.specs.declared.pieces.PieceOf.{PieceOf}
 pub use Rattle.texml_token.specs.declared.pieces.PieceOf.TheVariants.{Just, Slot}
 use Rattle.texml_token.specs.declared.pieces.ParamsOf.{ParamsOf}

@@ -1,5 +1,5 @@
 -- Tokens (The TeXbook, chapter 7). A name is its text.
-use Rattle.std.specs.Prelude.{ℕ, List, Bool, true, false, nat_eq, ◌&&◌, codes}
+use Rattle.std.specs.Prelude.{ℕ, List, Bool, true, false, nat_eq, ◌&&◌, ◌==◌, codes}
 use Rattle.std.specs.Cmp.Lexicographic.{pointwise}
 
 -- a character with its category, an active character, the place of a parameter in the body of a macro, a name, or
@@ -10,6 +10,15 @@ pub data Token : Type 0 where
   Param : ℕ → Token
   Named : List ℕ → Token
   Fixed : Token
+
+-- a character of this category
+abbrev pub has_category : ℕ → Token → Bool
+has_category category (Char c k) = k == category
+has_category category t = false
+
+-- the name of a new paragraph
+abbrev pub paragraph : Token
+paragraph = Named (codes "par")
 
 -- the text of the fixed \relax
 abbrev pub relax : List ℕ

@@ -1,4 +1,4 @@
-use Rattle.std.proofs.Common.{◌≡◌, ◌∙◌, sym, ap, subst, arith, length, ◌≤◌, ℕ}
+use Rattle.std.proofs.Common.{◌≡◌, ◌∙◌, sym, ap, subst, arith, length, ℕ}
 use Rattle.texml_token.specs.Numbers.{Table, Numbered, TextsAreScalar, number_of, with_text, text_at, Extends}
 use Rattle.texml_token.proofs.Table.{named_with, text_with, scalars_with, numbered_with, grows_by}
 use Rattle.texml_token.proofs.names.Names.intern.Goals as goal
