@@ -1,20 +1,12 @@
 -- The tokens of a group in braces, unexpanded (The TeXbook, chapter 20).
-use Rattle.std.specs.Prelude.{ℕ, ◌+◌, ◌-◌, ◌==◌, Bool, false, List, length, take, if◌then◌else◌}
+use Rattle.std.specs.Prelude.{◌+◌, ◌-◌, ◌==◌, Bool, List, length, take, if◌then◌else◌}
 use Rattle.std.specs.List.{count_by}
-use Rattle.texml_token.specs.Token.{Token, Char, Active, Param, Named, Fixed}
+use Rattle.texml_token.specs.Token.{Token, has_category}
 use Rattle.texml_token.specs.declared.category.TheConstants.{BEGIN_GROUP, END_GROUP}
 use Rattle.texml_expand.specs.declared.feeding.Verdict.{Verdict}
 use Rattle.texml_expand.specs.declared.feeding.Verdict.TheVariants.{TooShort, Yields}
 use Rattle.texml_expand.specs.State.{Reading}
 use Rattle.texml_expand.specs.Least.{by_least}
-
--- a character of a category
-abbrev pub has_category : ℕ → Token → Bool
-has_category k (Char c category) = category == k
-has_category k (Active c) = false
-has_category k (Param n) = false
-has_category k (Named t) = false
-has_category k Fixed = false
 
 -- behind a begun group: one more group was ended in these tokens than begun
 abbrev pub closes : List Token → Bool

@@ -35,22 +35,23 @@ abbrev pub least : ℕ → (ℕ → Bool) → ℕ
 least zero holds = zero
 least (suc bound) holds = if holds zero then zero else suc (least bound (λ k. holds (suc k)))
 
-module _ {A : Type 0} (decide : List Token → Verdict A) where
-  abbrev pub decides : Verdict A → Bool
-  decides TooShort = false
-  decides (Yields v) = true
-  decides (Refuses code) = true
+abbrev pub decides : {A : Type 0} → Verdict A → Bool
+decides TooShort = false
+decides (Yields v) = true
+decides (Refuses code) = true
 
+-- what was decided; a list that is too short never ends a reading
+abbrev pub decided : {A : Type 0} → Verdict A → Reading A
+decided TooShort s = Unfinished nothing
+decided (Yields v) s = give v s
+decided (Refuses code) s = fail code [] s
+
+module _ {A : Type 0} (decide : List Token → Verdict A) where
   -- so many tokens are enough: they decide, or there are no more
   abbrev pub is_enough : Answer (List Token) → Bool
   is_enough (Done list s gains) = decides (decide list)
   is_enough (Ended e gains) = true
   is_enough (Unfinished gains) = true
-
-  abbrev pub decided : Verdict A → Reading A
-  decided TooShort s = Unfinished nothing
-  decided (Yields v) = give v
-  decided (Refuses code) = fail code []
 
   -- what the next k tokens decide
   abbrev pub by_tokens : ℕ → Reading A

@@ -2,7 +2,7 @@
 ghost use Rattle.std.specs.Prelude.{◌≡◌, ◌+◌, ◌<◌, cond, IfOk};
 ghost use Rattle.texml_token.specs.Numbers.{Table, token_at};
 ghost use Rattle.texml_token.specs.declared.category.TheConstants.{BEGIN_GROUP, END_GROUP};
-ghost use Rattle.texml_expand.specs.Absorb.{has_category as is_of_category};
+ghost use Rattle.texml_token.specs.Token.{has_category};
 
 use crate::feeding::{Feeder, Verdict};
 use std::alloc::{AllocError, Global};
@@ -51,7 +51,7 @@ impl Feeder<Tokens> for Group {
     ghost judge = { λ group texts list. judge_group texts (group ++ list) };
 
     fn feed(&mut self, token: Token, _names: &Names) -> Result<Verdict<Tokens>, AllocError> {
-        if self.inner == 0 && has_category(token, category::END_GROUP) {
+        if self.inner == 0 && token.has_category(category::END_GROUP) {
             let body = mem::replace(&mut self.body, Tokens::new(self.alloc));
             return Ok(Verdict::Yields(body));
         }
@@ -62,27 +62,15 @@ impl Feeder<Tokens> for Group {
     }
 }
 
-/// Whether a token is a character of a category.
-pub fn has_category(token: Token, category: u8) -> bool
-    ensures { (texts : Table) → result ≡ is_of_category category (token_at texts token) }
-{
-    match token {
-        Token::Char(_, found) => found == category,
-        Token::Active(_) => false,
-        Token::Named(_) => false,
-        Token::Param(_) => false,
-    }
-}
-
 // How many groups are open behind a token, where so many are before it.
 fn open_behind(inner: usize, token: Token) -> Result<usize, AllocError>
-    requires { inner ≡ 0 → (texts : Table) → is_of_category END_GROUP (token_at texts token) ≡ false }
-    ensures { IfOk result (λ n. (texts : Table) → n + cond (is_of_category END_GROUP (token_at texts token)) 1 0 ≡ inner + cond (is_of_category BEGIN_GROUP (token_at texts token)) 1 0) }
+    requires { inner ≡ 0 → (texts : Table) → has_category END_GROUP (token_at texts token) ≡ false }
+    ensures { IfOk result (λ n. (texts : Table) → n + cond (has_category END_GROUP (token_at texts token)) 1 0 ≡ inner + cond (has_category BEGIN_GROUP (token_at texts token)) 1 0) }
 {
-    if has_category(token, category::END_GROUP) {
+    if token.has_category(category::END_GROUP) {
         return Ok(inner - 1);
     }
-    if has_category(token, category::BEGIN_GROUP) {
+    if token.has_category(category::BEGIN_GROUP) {
         return inner.checked_add(1).ok_or(AllocError);
     }
     Ok(inner)

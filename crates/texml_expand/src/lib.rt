@@ -18,7 +18,6 @@ mod stop;
 
 pub use codes::{ScopeCodes, end_character};
 pub use engine::{ESCAPE, Engine};
-pub use group::has_category;
 pub use laws::{always_decides, decides_once};
 pub use rest::Read;
 pub use stop::Stop;
