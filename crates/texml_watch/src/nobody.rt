@@ -7,9 +7,9 @@ use texml_base::Trouble;
 
 /// It wants no record, and one that it is told nevertheless changes nothing. It never fails.
 #[derive(Clone, Copy, Debug, Drop)]
-pub struct Silent;
+pub struct Nobody;
 
-impl Teller for Silent {
+impl Teller for Nobody {
     ghost wanting = { λ _. false };
 
     ghost heard = { λ old _ new. new ≡ old };
@@ -22,7 +22,7 @@ impl Teller for Silent {
         false
     }
 
-    fn tell(&mut self, _news: &Record) -> Result<(), Trouble> {
+    fn tell(&mut self, news: &Record) -> Result<(), Trouble> {
         Ok(())
     }
 }
