@@ -68,6 +68,11 @@ feeding_none judge h running sound short = record {
   on = λ texts g more. refl;
 }
 
+-- the table of an engine is the one by which it is fed
+pub fed_by : {V : Type 0} (judge judge' : Judge V) (t : TokenCode) (verdict : Verdict V) (names given : Table) → names ≡ given → ((texts : Table) → Extends names texts → IsFed judge t verdict judge' texts)
+    → (texts : Table) → Extends given texts → IsFed judge t verdict judge' texts
+fed_by judge judge' t verdict names given e fed texts x = fed texts (subst (λ n. Extends n texts) (sym e) x)
+
 module _ {V : Type 0} (first judge judge' : Judge V) (old now new : Held) (t : TokenCode) (verdict : Verdict V) (f : Feeding first old judge now)
     (takes : inner_token (state_of now) ≡ Done (token_at new.names t) (state_of new) nothing) (keeps : Kept now new) (given : TokenWithin (length new.names) t)
     (fed : (texts : Table) → Extends new.names texts → IsFed judge t verdict judge' texts) where
