@@ -142,7 +142,7 @@ pub label_put : (r : Rules) (n : ℕ) (l number : List ℕ) (h new : Held) → n
 label_put r n l number h new o k q = subst (λ x. Follows r (label r l number) h x) (sym q) (record {
   out = marks n (record { label = l; number = number }) ∷ [];
   gives = ap (λ (m : ℕ). Ok (marks m (record { label = l; number = number }) ∷ [], path_of h)) (sym o)
-    ∙ ap (λ p. Ok (marks n (record { label = l; number = number }) ∷ [], p)) (same_path n (mark_after (record { label = l; number = number })) h);
+      ∙ ap (λ p. Ok (marks n (record { label = l; number = number }) ∷ [], p)) (same_path n (mark_after (record { label = l; number = number })) h);
   stands = λ ls. changed_stands r (mark_after (record { label = l; number = number })) (mark_before (record { label = l; number = number })) (mark_moves (record { label = l; number = number })) n h ls k;
 })
 

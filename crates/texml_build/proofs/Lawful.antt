@@ -1,5 +1,5 @@
 -- The tree of every list of operations is valid, in a table with sound chains and void elements that hold nothing.
-use Rattle.std.proofs.Common.{arith, ◌≡◌, ◌∙◌, ap, sym, refl, subst, ℕ, zero, suc, ◌-◌, ◌<◌, ◌==◌, nat_lt, Bool, true, false, List, [], ◌∷◌, ◌++◌, length, drop, Option, Some, None, Result, Ok, Err, if◌then◌else◌, IfOk}
+use Rattle.std.proofs.Common.{arith, ◌≡◌, ◌∙◌, ap, sym, refl, subst, ℕ, zero, suc, ◌-◌, ◌<◌, ◌==◌, nat_lt, Bool, true, false, List, [], ◌∷◌, ◌++◌, length, drop, Option, Some, None, Result, Ok, Err, if◌then◌else◌, IfOk, OnOk}
 use Rattle.std.specs.Prelude.{unwrap_or, IsSome, codes}
 use Rattle.std.proofs.lemmas.List.{length-drop, drop_all}
 use Rattle.std.proofs.lemmas.Bool.Decides.{nat_tests}
@@ -253,9 +253,9 @@ valid_by r model (Ok o) g =
 pub built_valid : (r : Rules) → IsModel r → (ops : List Op) → IsValid r (built r ops)
 built_valid r model ops = valid_by r model (brackets r ops) (brackets_good r model ops)
 
-pub valid_result : (r : Rules) → IsModel r → (ops : List Op) (result : Result TreeCode BuildFault) → Builds (built r ops) result → IfOk result (λ t. Valid r (tree_of t))
-valid_result r model ops (Ok t) e = subst (IsValid r) e (built_valid r model ops)
-valid_result r model ops (Err f) e = tt
-
-pub model_of : (t : Elements) → IsContentModel t → IsModel (rules_of t)
+model_of : (t : Elements) → IsContentModel t → IsModel (rules_of t)
 model_of t m = record { sound = rules_sound t; void = void_is_empty t m; root = root_named t m }
+
+pub valid_result : (t : Elements) (ops : List Op) (result : Result TreeCode BuildFault) → OnOk result (IsContentModel t) → Builds (built (rules_of t) ops) result → IfOk result (λ tree. Valid (rules_of t) (tree_of tree))
+valid_result t ops (Ok tree) m e = subst (IsValid (rules_of t)) e (built_valid (rules_of t) (model_of t m) ops)
+valid_result t ops (Err f) m e = tt

@@ -4,3 +4,4 @@ pub mod Follow
 pub mod Paths
 pub mod Kids
 pub mod Lawful
+pub mod Rows

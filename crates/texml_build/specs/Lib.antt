@@ -3,4 +3,5 @@ pub mod Brackets
 pub mod Matched
 pub mod Valid
 pub mod Answer
+pub mod Small
 pub mod Held

@@ -54,6 +54,7 @@ pub(crate) struct Builder<'a> {
 }
 
 impl<'a> Open<'a> {
+    /// An element that has nothing yet.
     fn new(alloc: Global, elem: Elem, identified: bool, target: Option<&'a [u8]>) -> Open<'a>
         ensures { part_of result ≡ empty (record { elem = elem.0; identified = identified; target = option_map (λ t. t.now) target.entry }) }
     {
@@ -85,8 +86,7 @@ impl<'a> Open<'a> {
 
 /// The element `document`.
 fn root_elem(content: &Content) -> Elem
-    ensures value { result.0 ≡ root_of (rules_of content.now) }
-    ensures model { IsContentModel content.now }
+    ensures { result.0 ≡ root_of (rules_of content.now) }
 {
     match content.named(b"document") {
         Some(elem) => elem,
@@ -94,18 +94,22 @@ fn root_elem(content: &Content) -> Elem
     }
 }
 
+/// Whether the element is flagged `block`.
 fn is_block(content: &Content, elem: Elem) -> bool
-    ensures { result ≡ (rules_of content.now).block elem.0 }
+    ensures value { result ≡ (rules_of content.now).block elem.0 }
+    ensures model { IsContentModel content.now }
 {
     content.flags(elem).block
 }
 
+/// Whether the element closes by itself.
 fn closes(content: &Content, elem: Elem) -> bool
     ensures { result ≡ (rules_of content.now).closes elem.0 }
 {
     content.flags(elem).closes
 }
 
+/// Whether the element gets an id.
 fn gets_id(content: &Content, elem: Elem) -> bool
     ensures { result ≡ (rules_of content.now).id elem.0 }
 {
@@ -114,7 +118,8 @@ fn gets_id(content: &Content, elem: Elem) -> bool
 
 /// The element with what was put into it, copied into the arena.
 fn close<'a>(arena: &'a Bump, content: &Content, last: Open<'a>) -> Result<Node<'a>, AllocError>
-    ensures { IfOk result (λ node. plain node ≡ whole (rules_of content.now) (beginning_of last.entry) (level_of last.entry)) }
+    ensures value { IfOk result (λ node. plain node ≡ whole (rules_of content.now) (beginning_of last.entry) (level_of last.entry)) }
+    ensures model { IsContentModel content.now }
 {
     let Open {
         elem,
@@ -143,8 +148,7 @@ fn close<'a>(arena: &'a Bump, content: &Content, last: Open<'a>) -> Result<Node<
 impl<'a> Builder<'a> {
     /// A builder that has opened the root.
     pub(crate) fn new(alloc: Global, arena: &'a Bump, content: &Content) -> Builder<'a>
-        ensures held { held_of result ≡ fresh (rules_of content.now) }
-        ensures model { IsContentModel content.now }
+        ensures { held_of result ≡ fresh (rules_of content.now) }
     {
         Builder {
             alloc,
@@ -167,6 +171,7 @@ impl<'a> Builder<'a> {
         Ok(())
     }
 
+    /// Opens an element inside the innermost one.
     fn begin(
         &mut self,
         content: &Content,
@@ -183,6 +188,7 @@ impl<'a> Builder<'a> {
         Ok(())
     }
 
+    /// Makes a child of the innermost element, unless it is the root.
     fn end(&mut self, content: &Content) -> Result<(), AllocError>
         ensures value { OnOk result (held_of self.new ≡ ended (rules_of content.now) (held_of self.old)) }
         ensures shorter { OnOk result (length self.new.outer.items ≡ length self.old.outer.items - 1) }
@@ -199,6 +205,7 @@ impl<'a> Builder<'a> {
         }
     }
 
+    /// Appends to the text that is growing.
     fn append(&mut self, text: &[u8]) -> Result<(), AllocError>
         ensures { OnOk result (held_of self.new ≡ said text.now (held_of self.old)) }
     {
@@ -323,6 +330,7 @@ impl<'a> Builder<'a> {
         None
     }
 
+    /// Ends n elements and starts those of a chain.
     #[tactic(auto, using(crate::proofs::Follow::does_next, crate::proofs::Follow::does_fail))]
     fn move_to(&mut self, content: &Content, n: usize, chain: &[Elem]) -> Result<(), BuildFault>
         requires { n ≤ length self.old.outer.items }
@@ -386,6 +394,7 @@ impl<'a> Builder<'a> {
         None
     }
 
+    /// Ends the innermost element of this name, and those inside it.
     #[tactic(auto, using(crate::proofs::Follow::close_some, crate::proofs::Follow::close_none))]
     fn close_to(&mut self, content: &Content, elem: Elem) -> Result<(), BuildFault>
         ensures { Does (rules_of content.now) (spec_close (rules_of content.now) elem.0) (held_of self.old) (held_of self.new) result }
@@ -396,6 +405,7 @@ impl<'a> Builder<'a> {
         }
     }
 
+    /// Ends it and those inside it, if that can be done.
     #[tactic(auto, using(crate::proofs::Follow::close_if_some, crate::proofs::Follow::close_if_none))]
     fn close_if(&mut self, content: &Content, elem: Elem) -> Result<(), BuildFault>
         ensures { Does (rules_of content.now) (spec_close_if (rules_of content.now) elem.0) (held_of self.old) (held_of self.new) result }
@@ -406,6 +416,7 @@ impl<'a> Builder<'a> {
         }
     }
 
+    /// Puts a space where the innermost open element takes texts.
     #[tactic(auto, using(crate::proofs::Follow::space_said, crate::proofs::Follow::space_gone))]
     fn space(&mut self, content: &Content) -> Result<(), BuildFault>
         ensures { Does (rules_of content.now) (spec_space (rules_of content.now)) (held_of self.old) (held_of self.new) result }
@@ -418,6 +429,7 @@ impl<'a> Builder<'a> {
         Ok(())
     }
 
+    /// Puts a text at its place.
     #[tactic(auto, using(crate::proofs::Follow::does_next, crate::proofs::Follow::does_fail))]
     fn text(&mut self, content: &Content, text: &[u8]) -> Result<(), BuildFault>
         ensures { Does (rules_of content.now) (both (spec_place (rules_of content.now) None) (spec_say text.now)) (held_of self.old) (held_of self.new) result }
@@ -441,6 +453,7 @@ impl<'a> Builder<'a> {
         None
     }
 
+    /// Sets an attribute of the element inside which n others stand.
     fn put_attr(&mut self, n: usize, attr: usize, value: &[u8]) -> Result<(), AllocError>
         requires { n ≤ length self.old.outer.items }
         ensures { OnOk result (held_of self.new ≡ changed n (set_after (record { number = attr; value = value.now })) (held_of self.old)) }
@@ -476,6 +489,7 @@ impl<'a> Builder<'a> {
         }
     }
 
+    /// Sets an attribute of the innermost open element that may have it.
     #[tactic(auto, using(crate::proofs::Follow::attr_does))]
     fn attr(&mut self, content: &Content, attr: usize, value: &[u8]) -> Result<(), BuildFault>
         ensures { Does (rules_of content.now) (spec_attr (rules_of content.now) attr value.now) (held_of self.old) (held_of self.new) result }
@@ -505,6 +519,7 @@ impl<'a> Builder<'a> {
         }
     }
 
+    /// Sets attributes of the innermost open element itself, one after the other.
     fn own_attrs(&mut self, content: &Content, sets: &Sets) -> Result<(), BuildFault>
         ensures { Does (rules_of content.now) (each (spec_own_attr (rules_of content.now)) sets.now) (held_of self.old) (held_of self.new) result }
     {
@@ -517,6 +532,7 @@ impl<'a> Builder<'a> {
         Ok(())
     }
 
+    /// Starts an element at its place, with these attributes.
     #[tactic(auto, using(crate::proofs::Follow::does_next, crate::proofs::Follow::does_fail))]
     fn open(&mut self, content: &Content, elem: Elem, sets: &Sets) -> Result<(), BuildFault>
         ensures { Does (rules_of content.now) (both (spec_enter (rules_of content.now) None elem.0) (each (spec_own_attr (rules_of content.now)) sets.now)) (held_of self.old) (held_of self.new) result }
@@ -540,21 +556,17 @@ impl<'a> Builder<'a> {
         count
     }
 
+    /// Puts a label on the element inside which n others stand.
     fn put_label(&mut self, n: usize, label: &[u8], number: &[u8]) -> Result<(), AllocError>
         requires { n ≤ length self.old.outer.items }
         ensures { OnOk result (held_of self.new ≡ changed n (mark_after (record { label = label.now; number = number.now })) (held_of self.old)) }
     {
         let label: &'a [u8] = self.arena.try_alloc_slice_copy(label)?;
         let number: &'a [u8] = self.arena.try_alloc_slice_copy(number)?;
-        self.put(
-            n,
-            Extra::Label(Tag {
-                label,
-                number,
-            }),
-        )
+        self.put(n, Extra::Label(Tag { label, number }))
     }
 
+    /// Puts a label on the innermost open element that gets an id.
     fn label(&mut self, content: &Content, label: &[u8], number: &[u8]) -> Result<(), BuildFault>
         ensures { Does (rules_of content.now) (spec_label (rules_of content.now) label.now number.now) (held_of self.old) (held_of self.new) result }
     {
@@ -565,6 +577,7 @@ impl<'a> Builder<'a> {
         }
     }
 
+    /// The text, copied into the arena.
     fn kept(&self, text: &[u8]) -> Result<&'a [u8], AllocError>
         ensures { IfOk result (λ copy. copy.now ≡ text.now) }
     {
@@ -574,13 +587,19 @@ impl<'a> Builder<'a> {
 
     /// Opens and closes an element that refers to the label.
     #[tactic(auto, using(crate::proofs::Follow::does_next, crate::proofs::Follow::does_fail))]
-    fn refer_by(&mut self, content: &Content, elem: Elem, target: &'a [u8]) -> Result<(), BuildFault>
+    fn refer_by(
+        &mut self,
+        content: &Content,
+        elem: Elem,
+        target: &'a [u8],
+    ) -> Result<(), BuildFault>
         ensures { Does (rules_of content.now) (both (spec_enter (rules_of content.now) (Some target.now) elem.0) spec_end_one) (held_of self.old) (held_of self.new) result }
     {
         self.enter(content, Some(target), elem)?;
         self.end_one(content)
     }
 
+    /// Puts a reference to the label at its place.
     #[tactic(auto, using(crate::proofs::Follow::refer_some, crate::proofs::Follow::refer_none))]
     fn refer(&mut self, content: &Content, label: &[u8]) -> Result<(), BuildFault>
         ensures { Does (rules_of content.now) (spec_refer (rules_of content.now) label.now) (held_of self.old) (held_of self.new) result }
@@ -594,6 +613,7 @@ impl<'a> Builder<'a> {
         }
     }
 
+    /// Does one operation.
     fn step(&mut self, content: &Content, op: &Op) -> Result<(), BuildFault>
         ensures { Does (rules_of content.now) (spec_step (rules_of content.now) op.now) (held_of self.old) (held_of self.new) result }
     {
@@ -609,6 +629,7 @@ impl<'a> Builder<'a> {
         }
     }
 
+    /// Does operations, one after the other.
     fn run(&mut self, content: &Content, ops: &[Op]) -> Result<(), BuildFault>
         ensures { Does (rules_of content.now) (steps (rules_of content.now) ops.now) (held_of self.old) (held_of self.new) result }
     {
@@ -649,7 +670,8 @@ impl<'a> Builder<'a> {
 
     /// The root, when all others have ended.
     pub(crate) fn root(mut self, content: &Content) -> Result<Node<'a>, AllocError>
-        ensures { IfOk result (λ node. plain node ≡ whole (rules_of content.now) (held_of self.entry).inner.start (kids_after (texts (held_of self.entry).text) (held_of self.entry).inner.has)) }
+        ensures value { IfOk result (λ node. plain node ≡ whole (rules_of content.now) (held_of self.entry).inner.start (kids_after (texts (held_of self.entry).text) (held_of self.entry).inner.has)) }
+        ensures model { OnOk result (IsContentModel content.now) }
     {
         self.flush()?;
         let Builder {

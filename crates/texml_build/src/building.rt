@@ -1,6 +1,6 @@
 //! The tree of a list of operations.
 
-ghost use Rattle.std.specs.Prelude.{IfOk};
+ghost use Rattle.std.specs.Prelude.{IfOk, OnOk};
 ghost use Rattle.texml_tree.specs.Plain.{tree_of};
 ghost use Rattle.texml_model.specs.Rules.{IsContentModel, rules_of};
 ghost use Rattle.texml_build.specs.Matched.{built};
@@ -32,6 +32,7 @@ pub fn build<'a>(
     grow(alloc, arena, ops, content)
 }
 
+/// The tree, by a builder.
 #[tactic(auto, using(crate::proofs::Follow::built_fault))]
 fn grow<'a>(
     alloc: Global,
@@ -40,7 +41,7 @@ fn grow<'a>(
     content: &Content,
 ) -> Result<Tree<'a>, BuildFault>
     ensures value { Builds (built (rules_of content.now) ops.now) result }
-    ensures model { IsContentModel content.now }
+    ensures model { OnOk result (IsContentModel content.now) }
 {
     let mut builder = Builder::new(alloc, arena, content);
     match builder.perform(content, ops.as_slice()) {

@@ -112,6 +112,7 @@ impl Content {
     pub fn flags(&self, elem: Elem) -> Flags
         ensures value { result ≡ flags_of (rules_of self.now) elem.0 }
         ensures void { VoidIsEmpty (rules_of self.now) }
+        ensures model { IsContentModel self.now }
     {
         match self.find(elem) {
             None => NO_FLAGS,
@@ -164,8 +165,7 @@ impl Content {
     /// The element of this name, `None` exactly where the table has none.
     #[tactic(auto, unfolding(crate::specs::Rules::rules_of))]
     pub fn named(&self, name: &[u8]) -> Option<Elem>
-        ensures value { option_map (λ e. e.0) result ≡ (rules_of self.now).named name.now }
-        ensures model { IsContentModel self.now }
+        ensures { option_map (λ e. e.0) result ≡ (rules_of self.now).named name.now }
     {
         place_of(self.elements.lines.as_slice(), name)
     }
