@@ -131,7 +131,7 @@ impl<'a> Node<'a> {
     {
         match self {
             Node::Text(_) => None,
-            Node::Element(head, _) => last_value(head.attrs, at),
+            Node::Element(head, _) => head.attr(at),
         }
     }
 
@@ -163,6 +163,15 @@ impl<'a> Node<'a> {
             Node::Text(_) => false,
             Node::Element(head, _) => head.identified,
         }
+    }
+}
+
+impl<'a> Head<'a> {
+    /// The value of the attribute with this number: the one that was set last. None where it isn't set.
+    pub fn attr(&self, at: usize) -> Option<&'a [u8]>
+        ensures { option_map (λ v. v.now) result ≡ value_of at (head_of self.now).sets }
+    {
+        last_value(self.attrs, at)
     }
 }
 
