@@ -61,6 +61,7 @@ name_gives cats text = by (settled cats text) refl
     either : (b : Bool) (letters behind tail : List ℕ) (c : ℕ) → GivesName (cond b (gives (Named letters) SkippingBlanks behind) (gives (Named (c ∷ [])) (state_behind (cats c)) tail))
     either true letters behind tail c = tt
     either false letters behind tail c = tt
+
     by : (list : List ℕ) → settled cats text ≡ list → GivesName (name cats text)
     by [] is = subst GivesName (sym (name_end cats text is)) tt
     by (c ∷ tail) is = subst GivesName (sym (at_name cats text c tail is)) (either (cats c == 11) (word cats text).letters (word cats text).behind tail c)
