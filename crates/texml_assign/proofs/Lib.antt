@@ -1,0 +1,5 @@
+pub mod Readings
+pub mod Looping
+pub mod Doing
+pub mod Commands
+pub mod Worlds

@@ -1,0 +1,79 @@
+-- What an engine stands for when its world is changed.
+use Rattle.std.proofs.Common.{◌≡◌, ℕ, Bool, true, false, List, length, Option, None, Some, option_map, Result, Ok, Err, refl, sym, ap, ◌∙◌, subst}
+use Rattle.std.specs.Result.{MatchResult}
+use Rattle.texml_token.specs.Numbers.{token_at, tokens_at, TokenWithin, TokensWithin}
+use Rattle.texml_token.specs.declared.tokens.Token.{Token as TokenCode}
+use Rattle.texml_token.proofs.Table.{extends_refl}
+use Rattle.texml_scope.specs.declared.values.ValueOf.TheVariants as values
+use Rattle.texml_scope.specs.Groups.{EndFault, begin_group, keep_after, end_group}
+use Rattle.texml_scope.specs.Values.{same_kind}
+use Rattle.texml_scope.specs.Shown.{Shown, KeyCode, world_of}
+use Rattle.texml_scope.specs.Numbers.{MeaningCode, KindCode, world_at, answer_at, key_at, meaning_at, kind_at, KeyWithin, KindWithin, MeaningWithin, WorldCovered}
+use Rattle.texml_scope.proofs.Texts.{world_set_local, world_set_global, world_begin, world_keep_after, world_end}
+use Rattle.texml_scope.proofs.Covering.{set_local_covered, set_global_covered, begin_covered, keep_after_covered, end_covered}
+use Rattle.texml_expand.specs.declared.stop.Stop.{Stop}
+use Rattle.texml_expand.specs.declared.stop.Stop.TheVariants as stop
+use Rattle.texml_expand.specs.State.{State, nothing, Done, change}
+use Rattle.texml_expand.specs.Expand.{put}
+use Rattle.texml_expand.specs.Held.{Held, state_of, Sound, Kept}
+use Rattle.texml_expand.specs.Contract.{Quiet}
+use Rattle.texml_assign.specs.Sets.{assign, begin_kind, ended, end_kind, read_after}
+use Rattle.texml_assign.specs.Setting.{set_by}
+
+-- the world changes, and its names are given
+pub scope_kept : (h new : Held) (scope : Shown) (writes : ℕ) → Sound h → WorldCovered (length h.names) (world_of scope) → new ≡ record h { scope = scope; writes = writes } → Kept h new
+scope_kept h new scope writes sound covered is = subst (Kept h) (sym is) (record { grows = extends_refl h.names; sound = record sound { scope = covered } })
+
+-- a group begins
+pub begun_state : (h : Held) (scope : Shown) (kind : KindCode) → world_of scope ≡ begin_group kind (world_of h.scope) → begin_kind (kind_at h.names kind) (state_of h) ≡ Done tt (state_of (record h { scope = scope })) nothing
+begun_state h scope kind e =
+    ap (λ w. Done tt (record (state_of h) { world = w }) nothing) (sym (ap (world_at h.names) e ∙ world_begin h.names kind (world_of h.scope)))
+
+pub begun_covered : (h : Held) (scope : Shown) (kind : KindCode) → Sound h → KindWithin (length h.names) kind → world_of scope ≡ begin_group kind (world_of h.scope) → WorldCovered (length h.names) (world_of scope)
+begun_covered h scope kind sound given e = subst (WorldCovered (length h.names)) (sym e) (begin_covered (length h.names) kind given (world_of h.scope) sound.scope)
+
+-- a token is kept for after a group
+pub after_state : (h : Held) (scope : Shown) (t : TokenCode) → world_of scope ≡ keep_after t (world_of h.scope) → change (read_after (token_at h.names t)) (state_of h) ≡ Done tt (state_of (record h { scope = scope })) nothing
+after_state h scope t e =
+    ap (λ w. Done tt (record (state_of h) { world = w }) nothing) (sym (ap (world_at h.names) e ∙ world_keep_after h.names t (world_of h.scope)))
+
+pub after_covered : (h : Held) (scope : Shown) (t : TokenCode) → Sound h → TokenWithin (length h.names) t → world_of scope ≡ keep_after t (world_of h.scope) → WorldCovered (length h.names) (world_of scope)
+after_covered h scope t sound given e = subst (WorldCovered (length h.names)) (sym e) (keep_after_covered (length h.names) t given (world_of h.scope) sound.scope)
+
+-- a key is given a meaning
+set_world : (h : Held) (scope : Shown) (global : Bool) (k : KeyCode) (m : MeaningCode) → Sound h → KeyWithin (length h.names) k → world_of scope ≡ set_by global k (values.Means m) (world_of h.scope)
+    → assign global (key_at h.names k) (meaning_at h.names m) (state_of h) ≡ state_of (record h { scope = scope })
+set_world h scope true k m sound within e =
+    ap (λ w. record (state_of h) { world = w }) (sym (ap (world_at h.names) e ∙ world_set_global h.names sound.numbered k within (values.Means m) (world_of h.scope)))
+set_world h scope false k m sound within e =
+    ap (λ w. record (state_of h) { world = w }) (sym (ap (world_at h.names) e ∙ world_set_local h.names sound.numbered k within (values.Means m) (world_of h.scope)))
+
+pub set_state : (h new : Held) (scope : Shown) (global : Bool) (k : KeyCode) (m : MeaningCode) (writes : ℕ) → Sound h → KeyWithin (length h.names) k → world_of scope ≡ set_by global k (values.Means m) (world_of h.scope)
+    → new ≡ record h { scope = scope; writes = writes } → change (assign global (key_at h.names k) (meaning_at h.names m)) (state_of h) ≡ Done tt (state_of new) nothing
+set_state h new scope global k m writes sound within e is =
+    ap (λ s. Done tt s nothing) (set_world h scope global k m sound within e) ∙ ap (λ (n : Held). Done tt (state_of n) nothing) (sym is)
+
+pub set_covered : (h : Held) (scope : Shown) (global : Bool) (k : KeyCode) (m : MeaningCode) → Sound h → KeyWithin (length h.names) k → MeaningWithin (length h.names) m
+    → world_of scope ≡ set_by global k (values.Means m) (world_of h.scope) → WorldCovered (length h.names) (world_of scope)
+set_covered h scope true k m sound within given e = subst (WorldCovered (length h.names)) (sym e) (set_global_covered (length h.names) k (values.Means m) within given (world_of h.scope) sound.scope)
+set_covered h scope false k m sound within given e = subst (WorldCovered (length h.names)) (sym e) (set_local_covered (length h.names) k (values.Means m) within given (world_of h.scope) sound.scope)
+
+-- a group ends, or doesn't
+module _ (h : Held) (scope : Shown) (kind : KindCode) (answer : Result (List TokenCode) (EndFault KindCode)) (sound : Sound h) (given : KindWithin (length h.names) kind)
+    (e : (world_of scope, answer) ≡ end_group same_kind kind (world_of h.scope)) where
+  pub ended_is : end_kind (kind_at h.names kind) (state_of h) ≡ ended (world_at h.names (world_of scope), answer_at h.names answer) (state_of h)
+  ended_is = ap (λ x. ended x (state_of h)) (sym (world_end h.names sound.numbered kind given (world_of h.scope) (world_of scope) sound.scope answer e))
+
+-- its after-tokens are put back
+pub end_puts : (h mid new : Held) (scope : Shown) (kind : KindCode) (after : List TokenCode) (writes : ℕ) (r : Result (Unit {0}) Stop) (P : Type 0) → Sound h → KindWithin (length h.names) kind
+    → (world_of scope, Ok after) ≡ end_group same_kind kind (world_of h.scope)
+    → mid ≡ record h { scope = scope; writes = writes } → MatchResult r (λ _. state_of new ≡ put (tokens_at mid.names after) (state_of mid)) (λ s. (s ≡ stop.NoMemory) × P)
+    → Quiet (end_kind (kind_at h.names kind) (state_of h)) r (state_of new)
+end_puts h mid new scope kind after writes (Ok v) P sound given e is m =
+    let Q : Held → Type 0 = λ n. state_of new ≡ put (tokens_at n.names after) (state_of n) in
+    ended_is h scope kind (Ok after) sound given e ∙ ap (λ (s : State). Done tt s nothing) (sym (subst Q is m))
+end_puts h mid new scope kind after writes (Err s) P sound given e is m = subst (λ x. Quiet (end_kind (kind_at h.names kind) (state_of h)) (Err x) (state_of new)) (sym m.0) tt
+
+pub end_keeps : (h : Held) (scope : Shown) (kind : KindCode) (after : List TokenCode) → Sound h → (world_of scope, Ok after) ≡ end_group same_kind kind (world_of h.scope)
+    → WorldCovered (length h.names) (world_of scope) × TokensWithin (length h.names) after
+end_keeps h scope kind after sound e = end_covered (length h.names) kind (world_of h.scope) (world_of scope) (Ok after) e sound.scope
