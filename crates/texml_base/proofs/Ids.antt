@@ -90,3 +90,39 @@ held-remove id k (p ∷ os) ne h =
       | inr apart ↦ let h2 : in_use (ids_of os) id ≡ true = rw (ne_eqb p.id id apart) at h in
           rw (ne_eqb p.id id apart) (ap (λ f. if p.id == k then Some p.file else f) (held-remove id k os ne h2))
     ]
+
+-- what stands at the place that was found for an id is of that id, and is what it holds
+pub found_at : {T : Type 0} (id at : ℕ) (os : List (Opened T)) (o : Opened T) → in_use (ids_of os) id ≡ true → at ≡ place id os → o ≡ get_or os at o
+    → (held os id ≡ Some o.file) × (o.id ≡ id)
+found_at id at os o used found is =
+    let was : o ≡ get_or os (place id os) o = rw found at is in
+    let first = held-place id os o used in
+    (first.0 ∙ ap (λ x. Some x.file) (sym was), ap (λ x. x.id) was ∙ first.1)
+
+-- one file was changed in its place
+pub record IsPutBack {T : Type 0} (id : ℕ) (old new : List (Opened T)) (file : T) : Type 0 where
+  pub ids : ids_of new ≡ ids_of old
+  pub same : held new id ≡ Some file
+  pub others : (k : ℕ) → k ≢ id → held new k ≡ held old k
+
+pub put_back : {T : Type 0} (id at : ℕ) (os : List (Opened T)) (o : Opened T) → in_use (ids_of os) id ≡ true → at ≡ place id os → o.id ≡ id
+    → IsPutBack id os (set os at o) o.file
+put_back id at os o used found same =
+    let wrote : set os at o ≡ set os (place id os) o = ap (λ p. set os p o) found in record {
+      ids = ap ids_of wrote ∙ ids_of-set id os o same used;
+      same = ap (λ l. held l id) wrote ∙ held-set_same id os o same used;
+      others = λ k ne. ap (λ l. held l k) wrote ∙ held-set_other id k os o same ne used;
+    }
+
+-- one file was taken out
+pub record IsTakenOut {T : Type 0} (id : ℕ) (old new : List (Opened T)) : Type 0 where
+  pub ids : ids_of new ≡ without id (ids_of old)
+  pub others : (k : ℕ) → k ≢ id → held new k ≡ held old k
+
+pub taken_out : {T : Type 0} (id at : ℕ) (os new : List (Opened T)) → in_use (ids_of os) id ≡ true → at ≡ place id os → new ≡ remove os at
+    → IsTakenOut id os new
+taken_out id at os new used found is =
+    let gone : new ≡ remove os (place id os) = is ∙ ap (remove os) found in record {
+      ids = ap ids_of gone ∙ ids_of-remove id os used;
+      others = λ k ne. ap (λ l. held l k) gone ∙ held-remove id k os ne used;
+    }

@@ -1,8 +1,10 @@
 -- The definitions computed on small values.
-use Rattle.std.proofs.Common.{◌≡◌, ◌-◌, ◌^◌, ℕ, List, [], ◌∷◌, true, false, None, Some, refl, codes, arith}
-use Rattle.texml_base.specs.Outside.{inked, in_use, without}
+use Rattle.std.proofs.Common.{◌≡◌, ◌-◌, ◌^◌, ℕ, List, [], ◌∷◌, true, false, None, Some, Err, refl, codes, arith}
+use Rattle.texml_base.specs.Outside.{inked, in_use, without, KeptUnlessFailed}
 use Rattle.texml_base.specs.Rising.{add_up}
-use Rattle.texml_base.specs.Counters.{Begins}
+use Rattle.texml_base.specs.Counters.{BeginsOne}
+use Rattle.texml_base.specs.Stream.{AppendsPiece}
+use Rattle.texml_base.specs.declared.files.Trouble.TheVariants.{NoMemory}
 use Rattle.texml_base.specs.Opened.{ids_of, held}
 use Rattle.texml_base.specs.Place.{place}
 use Rattle.texml_base.specs.declared.opened.Opened.{Opened}
@@ -41,8 +43,14 @@ no_file_of_id = refl
 pub place_of_id : place 0 opened ≡ 1
 place_of_id = refl
 
-pub one_more_is_begun : Begins (record { limit = 2; begun = 1 }) true (record { limit = 2; begun = 2 })
+pub one_more_is_begun : BeginsOne (record { limit = 2; begun = 1 }) true (record { limit = 2; begun = 2 })
 one_more_is_begun = (omega arith, refl)
 
-pub limit_is_reached : Begins (record { limit = 2; begun = 2 }) false (record { limit = 2; begun = 2 })
+pub limit_is_reached : BeginsOne (record { limit = 2; begun = 2 }) false (record { limit = 2; begun = 2 })
 limit_is_reached = (refl, refl)
+
+pub refused_memory_is_no_fault : KeptUnlessFailed {T = ℕ} 3 3 (Err NoMemory)
+refused_memory_is_no_fault = refl
+
+pub first_part_is_appended : AppendsPiece {E = ℕ} (Some (codes "a")) (Some (codes "abc")) (Err 0) (codes "bcd")
+first_part_is_appended = (2, refl)

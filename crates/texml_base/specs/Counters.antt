@@ -7,6 +7,6 @@ pub record Allowance : Type 0 where
   pub begun : ℕ
 
 -- one more was begun; or the limit is reached, and nothing changed
-abbrev pub Begins : Allowance → Bool → Allowance → Type 0
-Begins old true new = (old.begun < old.limit) × (new ≡ record { limit = old.limit; begun = old.begun + 1 })
-Begins old false new = (old.begun ≡ old.limit) × (new ≡ old)
+abbrev pub BeginsOne : Allowance → Bool → Allowance → Type 0
+BeginsOne old true new = (old.begun < old.limit) × (new ≡ record { limit = old.limit; begun = old.begun + 1 })
+BeginsOne old false new = (old.begun ≡ old.limit) × (new ≡ old)

@@ -1,7 +1,6 @@
 -- What an open file of the real folder may still give.
-use Rattle.std.specs.Prelude.{◌≡◌, ◌<◌, ℕ, List, [], false, take, length, None, Some}
+use Rattle.std.specs.Prelude.{ℕ, List, [], false, None, Some}
 use Rattle.std.specs.declared.option.Option.{Option}
-use Rattle.std.specs.Io.KnownBytes.{Consumes, IsAtEnd}
 use Rattle.texml_base.specs.Outside.{Shelf}
 use Rattle.texml_base.specs.Opened.{ids_of, held}
 use Rattle.texml_base.specs.declared.opened.Opened.{Opened}
@@ -43,7 +42,3 @@ remaining_of remaining (Some f) = remaining f.file
 -- the same of the open file of an id
 abbrev pub remaining_at : {R F D : Type 0} → (F → Option (List ℕ)) → DiskFiles R F D → ℕ → Option (List ℕ)
 remaining_at remaining d id = remaining_of remaining (held d.opened.items id)
-
--- the first n bytes of a buffer are the known bytes that a file gave; none only at its end, or where there is no room
-abbrev pub Supplies : Option (List ℕ) → Option (List ℕ) → ℕ → List ℕ → Type 0
-Supplies old new n buffer = Consumes old new (take n buffer) × (n ≡ 0 → 0 < length buffer → IsAtEnd new)

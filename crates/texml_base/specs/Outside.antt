@@ -1,15 +1,16 @@
 -- What the calls of a sink and of a folder of files do to what these stand for.
-use Rattle.std.specs.Prelude.{◌≡◌, ◌≢◌, ℕ, ◌+◌, ◌≤◌, List, [], ◌∷◌, ◌++◌, length, take, Bool, true, false, if◌then◌else◌, ◌==◌, IsTrue, Result, Ok, Err, MatchResult, OnErr, IsErrOf, None, Some}
+use Rattle.std.specs.Prelude.{◌≡◌, ◌≢◌, ℕ, ◌+◌, ◌≤◌, List, [], ◌∷◌, ◌++◌, length, take, Bool, true, false, if◌then◌else◌, ◌==◌, IsTrue, Result, Ok, Err, MatchResult, OnOk, OnErr, IsErrOf, None, Some}
 use Rattle.std.specs.declared.option.Option.{Option}
 use Rattle.std.specs.Option.{option_map}
 use Rattle.texml_base.specs.Rising.{Rose, add_up}
 use Rattle.texml_base.specs.declared.files.Trouble.{Trouble}
-use Rattle.texml_base.specs.declared.files.Trouble.TheVariants.{Failed}
+use Rattle.texml_base.specs.declared.files.Trouble.TheVariants.{Failed, NoMemory}
 
--- a count of faults doesn't fall, and it rose where there was an error
+-- a count of faults doesn't fall; it rose where there was an error, and is as before where there was none
 pub record HasCause {T E : Type 0} (before now : ℕ) (result : Result T E) : Type 0 where
   pub later : before ≤ now
   pub failed : OnErr result (Rose before now)
+  pub kept : OnOk result (now ≡ before)
 
 -- What a sink has taken: its bytes and their number, each where it is told.
 pub record Ink : Type 0 where
@@ -109,7 +110,14 @@ Opens old new name (Err e) = new ≡ old
 abbrev pub Reads : Shelf → Shelf → ℕ → Result ℕ Trouble → List ℕ → Type 0
 Reads old new id result buffer = MatchResult result (λ n. (n ≤ length buffer) × IsRead old new id (take n buffer)) (λ _. new ≡ old)
 
--- a count of faults doesn't fall, and it rose where a call failed
+-- a count of faults is as before where a call on files didn't fail
+abbrev pub KeptUnlessFailed : {T : Type 0} → ℕ → ℕ → Result T Trouble → Type 0
+KeptUnlessFailed before now (Ok v) = now ≡ before
+KeptUnlessFailed before now (Err Failed) = Unit {0}
+KeptUnlessFailed before now (Err NoMemory) = now ≡ before
+
+-- a count of faults doesn't fall; it rose where a call failed, and is as before where it didn't
 pub record HasTroubleCause {T : Type 0} (before now : ℕ) (result : Result T Trouble) : Type 0 where
   pub later : before ≤ now
   pub failed : IsErrOf result Failed → Rose before now
+  pub kept : KeptUnlessFailed before now result

@@ -1,6 +1,6 @@
 //! Counters: an allowance that is used up, and steps that are taken.
 ghost use Rattle.std.specs.Prelude.{◌≡◌, ◌≤◌, ◌+◌};
-ghost use Rattle.texml_base.specs.Counters.{Begins};
+ghost use Rattle.texml_base.specs.Counters.{BeginsOne};
 ghost use Rattle.texml_base.specs.Rising.{add_up};
 
 use std::marker::Model;
@@ -31,9 +31,9 @@ impl Budget {
         Budget { limit, begun: 0 }
     }
 
-    /// Begins one more, or answers that the limit is reached and changes nothing.
+    /// BeginsOne one more, or answers that the limit is reached and changes nothing.
     pub fn begin(&mut self) -> bool
-        ensures { Begins self.old result self.new }
+        ensures { BeginsOne self.old result self.new }
     {
         if self.begun == self.limit {
             return false;

@@ -1,14 +1,17 @@
 //! The files of the real folder.
-ghost use Rattle.std.specs.Prelude.{◌≡◌, ◌≤◌, ◌<◌, ◌+◌, length, [], MatchOption, IfSome, IfOk, IsTrue, IsErrOf};
-ghost use Rattle.texml_base.specs.Outside.{Reads, HasTroubleCause, in_use};
-ghost use Rattle.texml_base.specs.Disk.{Supplies};
+ghost use Rattle.std.specs.Prelude.{◌≡◌, ◌≢◌, ℕ, ◌≤◌, ◌<◌, ◌+◌, length, [], MatchResult, IfOk, IfErr, IfSome, IsErr, IsTrue, IsErrOf};
+ghost use Rattle.std.specs.Io.{ReadsAtMost};
+ghost use Rattle.std.specs.Io.KnownBytes.{ReadConsumes};
+ghost use Rattle.std.specs.IoError.{error_kind};
+ghost use Rattle.texml_base.specs.Outside.{Opens, Reads, IsClosed, HasTroubleCause, in_use};
+ghost use Rattle.texml_base.specs.Rising.{add_up};
 
 use crate::faults::FaultCount;
 use crate::files::{Files, Trouble};
 use crate::opened::{Opened, free_id, place_of};
 use std::alloc::Global;
 use std::io::{ErrorKind, Read};
-use std::{fs, rt};
+use std::{fs, io, rt};
 
 #[derive(Drop)]
 pub struct DiskFile<F> {
@@ -50,7 +53,21 @@ impl<R: rt::Files> Files for DiskFiles<R> {
 
     ghost faults = { folder_faults };
 
-    fn open_file(&mut self, _alloc: Global, name: &str) -> Result<Option<u32>, Trouble> {
+    /// Opens the file of a name, or answers `None` where none is there. It takes its memory from the allocator of `new`.
+    ///
+    /// # Errors
+    ///
+    /// `Failed` where the system refuses to open what is there, or to look, as where a file stands in the place of a
+    /// folder. `NoMemory` where memory was refused.
+    fn open_file(&mut self, alloc: Global, name: &str) -> Result<Option<u32>, Trouble>
+        requires { length (folder_shelf self.old).ids < 1000 }
+        ensures opened { Opens (folder_shelf self.old) (folder_shelf self.new) name.now result }
+        ensures number { IfOk result (λ found. IfSome found (λ id. (folder_shelf self.new).number id ≡ u64.MAX)) }
+        ensures others { (k : ℕ) → IsTrue (in_use (folder_shelf self.old).ids k)
+            → remaining_at ⟦<R::File as Read>⟧.remaining self.new k ≡ remaining_at ⟦<R::File as Read>⟧.remaining self.old k }
+        ensures cause { HasTroubleCause (folder_faults self.old) (folder_faults self.new) result }
+        ensures raised { IsErrOf result Trouble.Failed → folder_faults self.new ≡ add_up (folder_faults self.old) 1 }
+    {
         match fs::open(&self.rt, name) {
             Ok(file) => {
                 let id = free_id(&self.opened);
@@ -69,44 +86,76 @@ impl<R: rt::Files> Files for DiskFiles<R> {
         }
     }
 
+    /// Reads the next bytes of an open file.
+    ///
+    /// # Errors
+    ///
+    /// `Failed` where the system fails to read, and where the file has given all that one may give. No byte is lost then.
     fn read_file(&mut self, id: u32, into: &mut [u8]) -> Result<usize, Trouble>
         requires open { IsTrue (in_use (folder_shelf self.old).ids id) }
         requires room { 0 < length into.old }
         ensures read { Reads (folder_shelf self.old) (folder_shelf self.new) id result into.new }
+        ensures bytes { ReadConsumes (remaining_at ⟦<R::File as Read>⟧.remaining self.old id)
+            (remaining_at ⟦<R::File as Read>⟧.remaining self.new id) result into.new }
+        ensures others { (k : ℕ) → k ≢ id
+            → remaining_at ⟦<R::File as Read>⟧.remaining self.new k ≡ remaining_at ⟦<R::File as Read>⟧.remaining self.old k }
+        ensures spent { (folder_shelf self.old).number id ≡ 0 → IsErrOf result Trouble.Failed }
         ensures cause { HasTroubleCause (folder_faults self.old) (folder_faults self.new) result }
+        ensures raised { IsErrOf result Trouble.Failed → folder_faults self.new ≡ add_up (folder_faults self.old) 1 }
         ensures memory { IsErrOf result Trouble.NoMemory → ⊥ }
-        ensures bytes { IfOk result (λ n. Supplies (remaining_at ⟦<R::File as Read>⟧.remaining self.old id)
-            (remaining_at ⟦<R::File as Read>⟧.remaining self.new id) n into.new) }
     {
         let place = place_of(&self.opened, id);
         let file = &mut self.opened[place].file;
         match file.give(into) {
-            Some(count) => Ok(count),
-            None => {
+            Ok(count) => Ok(count),
+            Err(_) => {
                 self.faults.raise();
                 Err(Trouble::Failed)
             }
         }
     }
 
-    fn close_file(&mut self, id: u32) {
+    fn close_file(&mut self, id: u32)
+        requires { IsTrue (in_use (folder_shelf self.old).ids id) }
+        ensures closed { IsClosed (folder_shelf self.old) (folder_shelf self.new) id }
+        ensures others { (k : ℕ) → k ≢ id
+            → remaining_at ⟦<R::File as Read>⟧.remaining self.new k ≡ remaining_at ⟦<R::File as Read>⟧.remaining self.old k }
+        ensures faults { folder_faults self.new ≡ folder_faults self.old }
+    {
         let place = place_of(&self.opened, id);
         let _ = self.opened.remove(place);
     }
 }
 
 impl<F: Read> DiskFile<F> {
-    // Gives the next bytes, or fails.
-    fn give(&mut self, into: &mut [u8]) -> Option<usize>
-        ensures budget { MatchOption result (self.new.budget ≡ self.old.budget) (λ n. (n ≤ length into.new) × (self.new.budget + n ≡ self.old.budget)) }
-        ensures bytes { IfSome result (λ n. Supplies (F.remaining self.old.file) (F.remaining self.new.file) n into.new) }
+    // Gives the next bytes, or fails and loses none.
+    pub fn give(&mut self, into: &mut [u8]) -> io::Result<usize>
+        ensures budget { MatchResult result (λ n. (n ≤ length into.new) × (self.new.budget + n ≡ self.old.budget)) (λ _. self.new.budget ≡ self.old.budget) }
+        ensures bytes { ReadConsumes (F.remaining self.old.file) (F.remaining self.new.file) result into.new }
+        ensures spent { self.old.budget ≡ 0 → IsErr result }
     {
         if self.budget == 0 {
-            return None;
+            return Err(io::Error::from(ErrorKind::FileTooLarge));
         }
         let most = into.len().min(self.budget as usize);
-        let count = self.file.read(&mut into[..most]).ok()?;
+        let count = read_once(&mut self.file, &mut into[..most])?;
         self.budget -= count as u64;
-        Some(count)
+        Ok(count)
     }
+}
+
+// Reads once, and again where the system interrupts that.
+fn read_once<F: Read>(file: &mut F, into: &mut [u8]) -> io::Result<usize>
+    ensures bound { ReadsAtMost result into.new }
+    ensures bytes { ReadConsumes (F.remaining file.old) (F.remaining file.new) result into.new }
+    ensures again { IfErr result (λ e. error_kind e ≢ ErrorKind.Interrupted) }
+{
+    'tries: for _ in 0..u64::MAX {
+        match file.read(into) {
+            Ok(count) => return Ok(count),
+            Err(e) if e.kind() == ErrorKind::Interrupted => {}
+            Err(e) => return Err(e),
+        }
+    }
+    Err(io::Error::from(ErrorKind::TimedOut))
 }

@@ -1,5 +1,5 @@
 //! Files that are opened by name and read through ids.
-ghost use Rattle.std.specs.Prelude.{◌≡◌, ℕ, ◌<◌, ◌≤◌, length, IsTrue, IsErrOf};
+ghost use Rattle.std.specs.Prelude.{◌≡◌, ℕ, ◌<◌, length, IsTrue, IsErrOf};
 ghost use Rattle.texml_base.specs.declared.files.Trouble.TheVariants.{NoMemory};
 ghost use Rattle.texml_base.specs.Outside.{Shelf, Opens, Reads, IsClosed, HasTroubleCause, in_use};
 
@@ -35,7 +35,7 @@ pub trait Files {
     /// What the folder stands for: what its names hold, where it tells that, and what each id has given and has left.
     ghost shelf: { Self → Shelf };
 
-    /// How often the folder has failed. It never falls, and ends at the greatest u64.
+    /// How often the folder has failed. Only a call that answers `Failed` changes it. It ends at the greatest u64.
     ghost faults: { Self → ℕ };
 
     /// Opens the file of a name, or answers `None` where there is none.
@@ -54,9 +54,9 @@ pub trait Files {
         ensures cause { HasTroubleCause (faults self.old) (faults self.new) result }
         ensures memory { IsErrOf result Trouble.NoMemory → ⊥ };
 
-    /// Closes an open file.
+    /// Closes an open file. It can't fail.
     fn close_file(&mut self, id: u32)
         requires { IsTrue (in_use (shelf self.old).ids id) }
         ensures closed { IsClosed (shelf self.old) (shelf self.new) id }
-        ensures faults { faults self.old ≤ faults self.new };
+        ensures faults { faults self.new ≡ faults self.old };
 }

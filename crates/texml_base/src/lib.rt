@@ -1,8 +1,8 @@
 //! What a run sees of the outside: files that are opened by name and read in pieces, and sinks that take bytes; and two counters.
 //!
 //! The contract in a sentence: a trait says what a folder of files or a sink stands for and what each call does to that,
-//! an error comes only where the object's own count of faults rose, and each implementation here is proved against it.
-//! It stands on std alone.
+//! a failure comes only where the object's own count of faults rose, which no other answer changes, and each
+//! implementation here is proved against it. It stands on std alone.
 #![tactic(auto)]
 
 mod counters;

@@ -58,16 +58,16 @@ impl CalmFiles {
 }
 
 impl Files for CalmFiles {
-    ghost use Rattle.texml_base.specs.Memory.{calm_shelf, calm_piece};
+    ghost use Rattle.texml_base.specs.Memory.{calm_shelf, calm_faults, calm_piece};
 
     ghost shelf = { calm_shelf };
 
-    ghost faults = { λ _. 0 };
+    ghost faults = { calm_faults };
 
     fn open_file(&mut self, alloc: Global, name: &str) -> Result<Option<u32>, Trouble>
         requires { length (calm_shelf self.old).ids < 1000 }
         ensures opened { Opens (calm_shelf self.old) (calm_shelf self.new) name.now result }
-        ensures cause { HasTroubleCause 0 0 result }
+        ensures cause { HasTroubleCause (calm_faults self.old) (calm_faults self.new) result }
         ensures piece { calm_piece self.new ≡ calm_piece self.old }
     {
         let Some(bytes) = find_named(&self.named, name) else {
@@ -84,7 +84,7 @@ impl Files for CalmFiles {
         requires open { IsTrue (in_use (calm_shelf self.old).ids id) }
         requires room { 0 < length into.old }
         ensures read { Reads (calm_shelf self.old) (calm_shelf self.new) id result into.new }
-        ensures cause { HasTroubleCause 0 0 result }
+        ensures cause { HasTroubleCause (calm_faults self.old) (calm_faults self.new) result }
         ensures memory { IsErrOf result Trouble.NoMemory → ⊥ }
         ensures count { IfOk result (λ n. n ≡ min (min (length ((calm_shelf self.old).left id)) (calm_piece self.old)) (length into.old)) }
         ensures piece { calm_piece self.new ≡ calm_piece self.old }
@@ -98,7 +98,7 @@ impl Files for CalmFiles {
     fn close_file(&mut self, id: u32)
         requires { IsTrue (in_use (calm_shelf self.old).ids id) }
         ensures closed { IsClosed (calm_shelf self.old) (calm_shelf self.new) id }
-        ensures faults { 0 ≤ 0 }
+        ensures faults { calm_faults self.new ≡ calm_faults self.old }
         ensures piece { calm_piece self.new ≡ calm_piece self.old }
     {
         let place = place_of(&self.opened, id);

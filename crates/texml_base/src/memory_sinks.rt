@@ -25,7 +25,7 @@ impl CalmSink {
 
     /// The number of bytes taken, up to the greatest u64.
     pub fn count(&self) -> u64
-        ensures { calm_ink self.now ≡ record { bytes = None; count = Some result } }
+        ensures { Some result ≡ (calm_ink self.now).count }
     {
         self.count
     }

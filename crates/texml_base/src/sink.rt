@@ -1,9 +1,13 @@
 //! A sink takes bytes, and counts its own faults.
-ghost use Rattle.std.specs.Prelude.{◌≡◌, ℕ, None, OnOk};
+ghost use Rattle.std.specs.Prelude.{◌≡◌, ◌≢◌, ℕ, None, OnErr, IfErr};
+ghost use Rattle.std.specs.IoError.{error_kind};
 ghost use Rattle.texml_base.specs.Outside.{Ink, Takes, HasCause};
+ghost use Rattle.texml_base.specs.Rising.{add_up};
+ghost use Rattle.texml_base.specs.Stream.{AppendsPiece};
 
 use crate::faults::FaultCount;
-use std::io::Write;
+use std::io;
+use std::io::{ErrorKind, Write};
 
 /// A write that failed: the sink's count of faults rose in that call.
 #[derive(Clone, Copy, Debug, PartialEq, Eq, Drop)]
@@ -14,7 +18,7 @@ pub trait Sink {
     /// The bytes so far and their number, each where it is told.
     ghost ink: { Self → Ink };
 
-    /// How often the sink has failed. It never falls, and ends at the greatest u64.
+    /// How often the sink has failed. Only a write that fails changes it. It ends at the greatest u64.
     ghost faults: { Self → ℕ };
 
     /// Appends the piece; or appends a prefix of it and fails, only where the count of faults rose. It takes no memory.
@@ -46,21 +50,21 @@ impl<W: Write> StreamSink<W> {
 }
 
 impl<W: Write> Sink for StreamSink<W> {
-    ghost use Rattle.std.specs.Io.KnownBytes.{Appends};
-    ghost use Rattle.texml_base.specs.Stream.{stream_bytes, stream_faults};
+    ghost use Rattle.texml_base.specs.Stream.{stream_bytes, stream_faults, AppendsPiece};
 
     ghost ink = { λ _. record { bytes = None; count = None } };
 
     ghost faults = { stream_faults };
 
-    /// Writes the piece whole, or fails.
+    /// Writes the piece whole, or a first part of it and fails. A write that the system interrupts is tried again, and
+    /// nothing is that failed.
     fn write(&mut self, piece: &[u8]) -> Result<(), SinkFail>
         ensures written { Takes (record { bytes = None; count = None }) (record { bytes = None; count = None }) result piece.now }
+        ensures bytes { AppendsPiece (stream_bytes W.contents self.old) (stream_bytes W.contents self.new) result piece.now }
         ensures cause { HasCause (stream_faults self.old) (stream_faults self.new) result }
-        ensures bytes { OnOk result (Appends (stream_bytes W.contents self.old) (stream_bytes W.contents self.new) piece.now) }
-        ensures later { OnOk result (stream_faults self.new ≡ stream_faults self.old) }
+        ensures raised { OnErr result (stream_faults self.new ≡ add_up (stream_faults self.old) 1) }
     {
-        match self.stream.write_all(piece) {
+        match write_whole(&mut self.stream, piece) {
             Ok(()) => Ok(()),
             Err(_) => {
                 self.faults.raise();
@@ -68,4 +72,24 @@ impl<W: Write> Sink for StreamSink<W> {
             }
         }
     }
+}
+
+// Writes a piece whole, or a first part of it and fails.
+fn write_whole<W: Write>(stream: &mut W, piece: &[u8]) -> io::Result<()>
+    ensures bytes { AppendsPiece (W.contents stream.old) (W.contents stream.new) result piece.now }
+    ensures again { IfErr result (λ e. error_kind e ≢ ErrorKind.Interrupted) }
+{
+    let mut rest = piece;
+    'writes: for _ in 0..u64::MAX {
+        if rest.is_empty() {
+            return Ok(());
+        }
+        match stream.write(rest) {
+            Ok(0) => return Err(io::Error::from(ErrorKind::WriteZero)),
+            Ok(count) => rest = &rest[count..],
+            Err(e) if e.kind() == ErrorKind::Interrupted => {}
+            Err(e) => return Err(e),
+        }
+    }
+    Err(io::Error::from(ErrorKind::TimedOut))
 }

@@ -3,14 +3,20 @@ pub mod Pages
 pub mod Turns
 pub mod Onward
 pub mod Lower
+pub mod Codes
 pub mod Taking
 pub mod Putting
 pub mod Fresh
+pub mod Progress
 pub mod Order
 pub mod Falls
 pub mod Settle
 pub mod Total
 pub mod Meeting
 mod Rows
-pub mod Rounds
+pub mod Judging
 pub mod Fronts
+pub mod Rounds
+pub mod Least
+pub mod Feeding
+pub mod Groups

@@ -7,7 +7,7 @@ use Rattle.texml_watch.proofs.Hearing.{AllHeard-append}
 use Rattle.texml_expand.specs.declared.stop.Stop.{Stop}
 use Rattle.texml_expand.specs.declared.stop.Stop.TheVariants as stop
 use Rattle.texml_expand.specs.State.{State, Gains, nothing, ◌⊕◌, Answer, Done, Ended, Unfinished, Reading, after, chain, added, tell}
-use Rattle.texml_expand.specs.Contract.{Silent, Gives, Stops, Because, outside}
+use Rattle.texml_expand.specs.Contract.{Silent, DecidesOn, Stops, ReadsBecause, TellsBecause, Outside, outside, stop_after}
 use Rattle.texml_expand.specs.Hearing.{HearsIf, HearsPartIf, hears, hears_part, HeardLast, MeetsFirst, MeetsCut, MeetsPart, Meets, Follows}
 
 -- what is added
@@ -21,6 +21,15 @@ added_chain : {A B : Type 0} (a : Answer A) (f : A → Reading B) → (more : Li
 added_chain (Done v s gains) f = ((added (f v s)).records, ap (λ g. g.records) (added_after gains (f v s)))
 added_chain (Ended e gains) f = ([], sym (append-nil gains.records))
 added_chain (Unfinished gains) f = ([], sym (append-nil gains.records))
+
+-- neither reading nor telling is blamed
+abbrev pub NothingFails : {A : Type 0} → Result A Stop → Type 0
+NothingFails (Ok v) = Unit {0}
+NothingFails (Err (stop.Tex f)) = Unit {0}
+NothingFails (Err (stop.Limit n)) = Unit {0}
+NothingFails (Err stop.ReadFailed) = ⊥
+NothingFails (Err stop.TellFailed) = ⊥
+NothingFails (Err stop.NoMemory) = Unit {0}
 
 module _ {T : Type 0} (hear part : T → Record → T → Type 0) where
   heard_last : (rows more : List Record) (last : Option Record) (a b c : T) → AllHeard hear a rows b → HeardLast hear part more last b c → HeardLast hear part (rows ++ more) last a c
@@ -114,7 +123,7 @@ module _ {T : Type 0} (hear part : T → Record → T → Type 0) where
   part_told row s a b h = record { rows = []; last = Some row; more = []; is = refl; heard = (a, refl, h) }
 
   -- from what some depth gives to the one answer, and back
-  pub follows_of : {A : Type 0} (reading : ℕ → Answer A) (x : Answer A) (r : Result A Stop) (s : State) (a b : T) → Gives reading x → Meets hear part x r s a b → Follows hear part reading r s a b
+  pub follows_of : {A : Type 0} (reading : ℕ → Answer A) (x : Answer A) (r : Result A Stop) (s : State) (a b : T) → DecidesOn reading x → Meets hear part x r s a b → Follows hear part reading r s a b
   follows_of reading x r s a b g h = record { answer = x; given = g; meets = h }
 
 -- who wants no record stays as they were, and who wants one hears it
@@ -129,30 +138,38 @@ hears_some wants part row a b e h = subst (λ w. HearsPartIf w part a row b) (sy
 
 -- a call that reads no file may be said with any count of theirs
 pub stops_unread : {A : Type 0} (r : Result A Stop) (reads tells tells' : ℕ) (kept : Option Stop) → Stops r (outside 0 tells) (outside 0 tells') kept → Stops r (outside reads tells) (outside reads tells') kept
-stops_unread r reads tells tells' kept h = record { kept = h.kept; reads = omega arith; tells = h.tells; because = because r h.because }
+stops_unread r reads tells tells' kept h = record { kept = h.kept; reads = unread r h.reads; tells = h.tells }
   where
-    because : {A : Type 0} (r : Result A Stop) → Because r (outside 0 tells) (outside 0 tells') → Because r (outside reads tells) (outside reads tells')
-    because (Ok v) b = tt
-    because (Err (stop.Tex f)) b = tt
-    because (Err (stop.Limit n)) b = tt
-    because (Err stop.ReadFailed) b = absurd (omega (arith, b))
-    because (Err stop.TellFailed) b = b
-    because (Err stop.NoMemory) b = tt
+    unread : {A : Type 0} (r : Result A Stop) → ReadsBecause r 0 0 → ReadsBecause r reads reads
+    unread (Ok v) b = refl
+    unread (Err (stop.Tex f)) b = refl
+    unread (Err (stop.Limit n)) b = refl
+    unread (Err stop.ReadFailed) b = absurd (omega (arith, b))
+    unread (Err stop.TellFailed) b = refl
+    unread (Err stop.NoMemory) b = refl
 
 -- one call behind another
 pub stops_then : {A B : Type 0} (v : A) (r : Result B Stop) (reads tells reads' tells' reads'' tells'' : ℕ) (k kept : Option Stop)
     → Stops (Ok v) (outside reads tells) (outside reads' tells') k → Stops r (outside reads' tells') (outside reads'' tells'') kept → Stops r (outside reads tells) (outside reads'' tells'') kept
 stops_then v r reads tells reads' tells' reads'' tells'' k kept g h = record {
   kept = h.kept;
-  reads = let a = g.reads in let b = h.reads in omega arith;
-  tells = let a = g.tells in let b = h.tells in omega arith;
-  because = because r h.because;
+  reads = subst (λ n. ReadsBecause r n reads'') g.reads h.reads;
+  tells = subst (λ n. TellsBecause r n tells'') g.tells h.tells;
 }
-  where
-    because : {B : Type 0} (r : Result B Stop) → Because r (outside reads' tells') (outside reads'' tells'') → Because r (outside reads tells) (outside reads'' tells'')
-    because (Ok v) b = tt
-    because (Err (stop.Tex f)) b = tt
-    because (Err (stop.Limit n)) b = tt
-    because (Err stop.ReadFailed) b = let le = g.reads in omega arith
-    because (Err stop.TellFailed) b = let le = g.tells in omega arith
-    because (Err stop.NoMemory) b = tt
+
+-- who isn't asked doesn't fail
+pub stops_same : {A : Type 0} (r : Result A Stop) (n : Outside) (kept : Option Stop) → kept ≡ stop_after r → NothingFails r → Stops r n n kept
+stops_same (Ok v) n kept e h = record { kept = e; reads = refl; tells = refl }
+stops_same (Err (stop.Tex f)) n kept e h = record { kept = e; reads = refl; tells = refl }
+stops_same (Err (stop.Limit l)) n kept e h = record { kept = e; reads = refl; tells = refl }
+stops_same (Err stop.ReadFailed) n kept e h = absurd h
+stops_same (Err stop.TellFailed) n kept e h = absurd h
+stops_same (Err stop.NoMemory) n kept e h = record { kept = e; reads = refl; tells = refl }
+
+pub silent_fails_not : {A : Type 0} (a : Answer A) (r : Result A Stop) (s : State) → Silent a r s → NothingFails r
+silent_fails_not a (Ok v) s h = tt
+silent_fails_not a (Err (stop.Tex f)) s h = tt
+silent_fails_not a (Err (stop.Limit l)) s h = tt
+silent_fails_not a (Err stop.ReadFailed) s h = h
+silent_fails_not a (Err stop.TellFailed) s h = h
+silent_fails_not a (Err stop.NoMemory) s h = tt

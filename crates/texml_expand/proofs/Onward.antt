@@ -3,8 +3,8 @@ use Rattle.std.proofs.Common.{◌≡◌, ℕ, List, [], Bool, true, false, ◌||
 use Rattle.texml_token.specs.Token.{Token}
 use Rattle.texml_token.specs.Numbers.{Table}
 use Rattle.texml_expand.specs.Rest.{Item, Place}
-use Rattle.texml_expand.specs.Next.{Given, Got, AtEnd, Invalid, behind, taken, next, Meets}
-use Rattle.texml_expand.specs.Turning.{Turns}
+use Rattle.texml_expand.specs.Next.{Given, Got, AtEnd, Invalid, behind, taken, next}
+use Rattle.texml_expand.specs.Turning.{IsNext, Turns}
 use Rattle.texml_expand.specs.declared.rest.RestFault.{RestFault}
 use Rattle.texml_expand.specs.declared.rest.RestFault.TheVariants as fault
 
@@ -39,14 +39,14 @@ pub onward_ended : (all now later : Given) (crossed : Bool) → Onward all cross
 onward_ended all now later crossed o e = record { is = o.is ∙ ap (behind crossed) e ∙ behind-ended crossed later }
 
 pub meets_token : (all now : Given) (crossed frozen : Bool) (t : Token) (rest : List (Item Token)) (place : Place) → Onward all crossed now → now ≡ Got (taken t frozen) rest place
-    → Meets all (Ok (Some (record { token = t; frozen = frozen; crossed = crossed }))) rest place
+    → IsNext all (Ok (Some (record { token = t; frozen = frozen; crossed = crossed }))) rest place
 meets_token all now crossed frozen t rest place o e =
     o.is ∙ ap (behind crossed) e ∙ ap (λ c. Got (record { token = t; frozen = frozen; crossed = c }) rest place) (or_false crossed)
 
-pub meets_end : (all now : Given) (crossed : Bool) (rest : List (Item Token)) (place : Place) → Onward all crossed now → (now ≡ AtEnd place) × (rest ≡ []) → Meets all (Ok None) rest place
+pub meets_end : (all now : Given) (crossed : Bool) (rest : List (Item Token)) (place : Place) → Onward all crossed now → (now ≡ AtEnd place) × (rest ≡ []) → IsNext all (Ok None) rest place
 meets_end all now crossed rest place o e = (o.is ∙ ap (behind crossed) e.0, e.1)
 
 pub meets_fault : (cats : ℕ → ℕ) (end : Option ℕ) (texts : Table) (all : Given) (crossed : Bool) (a b : List (Item Token)) (p q : Place) (f : RestFault) → Onward all crossed (next cats end a p)
-    → Turns cats end texts a p (Err f) b q → Meets all (Err f) b q
+    → Turns cats end texts a p (Err f) b q → IsNext all (Err f) b q
 meets_fault cats end texts all crossed a b p q (fault.Invalid c) o t = o.is ∙ ap (behind crossed) t
 meets_fault cats end texts all crossed a b p q fault.NoMemory o t = tt

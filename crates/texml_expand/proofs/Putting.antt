@@ -21,5 +21,5 @@ pub kept_put : (h : Held) (list : List TokenCode) (r : HeldRest) → r ≡ recor
 kept_put h list r e s w =
     subst (λ r. Kept h (with_rest h r)) (sym e) (record {
       grows = extends_refl h.names;
-      sound = record { numbered = s.numbered; items = within_put (length h.names) list h.items w s.items; scope = s.scope };
+      sound = record { numbered = s.numbered; items = within_put (length h.names) list h.items w s.items; kept = s.kept; scope = s.scope; budget = s.budget };
     })

@@ -1,38 +1,53 @@
 -- What taking a token is, by what the rest gives.
-use Rattle.std.proofs.Common.{◌≡◌, ℕ, List, [], Option, Some, None, Ok, Err, refl, sym, ap, ap₂, ◌∙◌}
+use Rattle.std.proofs.Common.{◌≡◌, ℕ, List, [], Option, Some, None, Result, Ok, Err, refl, sym, ap, ap₂, ◌∙◌, subst}
+use Rattle.std.specs.Option.{option_map}
 use Rattle.texml_token.specs.Token.{Token}
 use Rattle.texml_token.specs.Numbers.{Table}
-use Rattle.texml_token.specs.declared.fault_code.TheConstants.{INVALID_CHARACTER}
+use Rattle.texml_token.specs.declared.fault_code.TheConstants.{INVALID_CHAR}
 use Rattle.texml_scope.specs.Texts.{World}
 use Rattle.texml_expand.specs.Rest.{Item, Place}
-use Rattle.texml_expand.specs.Next.{Taken, next, read_at, given_at, Meets}
+use Rattle.texml_expand.specs.Next.{Taken, next}
+use Rattle.texml_expand.specs.Turning.{given_at, IsNext}
+use Rattle.texml_expand.specs.Codes.{cats_of, end_of}
+use Rattle.texml_expand.specs.Held.{read_at}
 use Rattle.texml_expand.specs.declared.rest.Read.{Read}
+use Rattle.texml_expand.specs.declared.rest.RestFault.{RestFault}
 use Rattle.texml_expand.specs.declared.rest.RestFault.TheVariants as fault
 use Rattle.texml_expand.specs.declared.stop.Stop.{Stop}
 use Rattle.texml_expand.specs.declared.stop.Stop.TheVariants as stop
-use Rattle.texml_expand.specs.State.{State, Answer, Done, Ended, Tex, nothing, fault_at, cats_of, end_of}
+use Rattle.texml_expand.specs.State.{State, Answer, Done, Ended, Tex, nothing, fault_at}
 use Rattle.texml_expand.specs.Expand.{take, take_given}
-use Rattle.texml_expand.specs.Held.{option_at}
 use Rattle.texml_expand.specs.Contract.{Silent, IsFaultAt}
 
-abbrev pub state : World → List (Item Token) → ℕ → ℕ → ℕ → Place → State
-state w rest begun limit nesting place = record { world = w; rest = rest; begun = begun; limit = limit; nesting = nesting; place = place }
+abbrev behind : State → World → Option Token → List (Item Token) → Place → State
+behind s w kept rest place = record s { world = w; kept = kept; rest = rest; place = place }
 
-pub take_ok : (s : State) (w : World) (rest : List (Item Token)) (place : Place) (o : Option Taken) → w ≡ s.world
-    → Meets (next (cats_of s.world) (end_of s.world) s.rest s.place) (Ok o) rest place
-    → take s ≡ Done o (state w rest s.begun s.limit s.nesting place) nothing
-take_ok s w rest place (Some t) same m =
-    ap (λ g. take_given g s) m ∙ ap (λ v. Done (Some t) (state v rest s.begun s.limit s.nesting place) nothing) (sym same)
-take_ok s w rest place None same m =
-    ap (λ g. take_given g s) m.0
-    ∙ ap₂ {A = World} {B = List (Item Token)} (λ v r. Done None (state v r s.begun s.limit s.nesting place) nothing) (sym same) (sym m.1)
+-- what the rest gives, where the world and the kept token are the same behind it
+taken_ok : (s : State) (rest : List (Item Token)) (place : Place) (o : Option Taken)
+    → IsNext (next (cats_of s.world) (end_of s.world) s.rest s.place) (Ok o) rest place
+    → take s ≡ Done o (record s { rest = rest; place = place }) nothing
+taken_ok s rest place (Some t) m = ap (λ g. take_given g s) m
+taken_ok s rest place None m = ap (λ g. take_given g s) m.0 ∙ ap {A = List (Item Token)} (λ r. Done None (record s { rest = r; place = place }) nothing) (sym m.1)
+
+pub take_ok : (s : State) (w : World) (kept : Option Token) (rest : List (Item Token)) (place : Place) (o : Option Taken) → w ≡ s.world → kept ≡ s.kept
+    → IsNext (next (cats_of s.world) (end_of s.world) s.rest s.place) (Ok o) rest place
+    → take s ≡ Done o (behind s w kept rest place) nothing
+take_ok s w kept rest place o same token m =
+    taken_ok s rest place o m
+    ∙ ap₂ {A = World} {B = Option Token} (λ v k. Done o (behind s v k rest place) nothing) (sym same) (sym token)
 
 pub take_bad : (s : State) (rest : List (Item Token)) (place : Place) (c : ℕ)
-    → Meets (next (cats_of s.world) (end_of s.world) s.rest s.place) (Err (fault.Invalid c)) rest place
-    → take s ≡ Ended (Tex (fault_at INVALID_CHARACTER [] place)) nothing
+    → IsNext (next (cats_of s.world) (end_of s.world) s.rest s.place) (Err (fault.Invalid c)) rest place
+    → take s ≡ Ended (Tex (fault_at INVALID_CHAR [] place)) nothing
 take_bad s rest place c m = ap (λ g. take_given g s) m
 
-pub given_ok : (texts : Table) (o : Option Read) → given_at texts (Ok o) ≡ Ok (option_at (read_at texts) o)
+-- the rest is read with the categories and the end character of the world
+pub next_by : (s : State) (cats : ℕ → ℕ) (end : Option ℕ) (r : Result (Option Taken) RestFault) (rest : List (Item Token)) (place : Place) → cats_of s.world ≡ cats → end_of s.world ≡ end
+    → IsNext (next cats end s.rest s.place) r rest place → IsNext (next (cats_of s.world) (end_of s.world) s.rest s.place) r rest place
+next_by s cats end r rest place c e m =
+    subst (λ x. IsNext (next x (end_of s.world) s.rest s.place) r rest place) (sym c) (subst (λ x. IsNext (next cats x s.rest s.place) r rest place) (sym e) m)
+
+pub given_ok : (texts : Table) (o : Option Read) → given_at texts (Ok o) ≡ Ok (option_map (read_at texts) o)
 given_ok texts None = refl
 given_ok texts (Some r) = refl
 

@@ -7,7 +7,7 @@ use Rattle.texml_expand.specs.Rest.{Place}
 use Rattle.texml_expand.specs.State.{State, room, Tex, Limit, nothing, Answer, Done, Ended, IsDecided, fault_at}
 
 -- some depth decides, and gives this
-pub record Gives {A : Type 0} (reading : ℕ → Answer A) (answer : Answer A) : Type 0 where
+pub record DecidesOn {A : Type 0} (reading : ℕ → Answer A) (answer : Answer A) : Type 0 where
   pub depth : ℕ
   pub is : reading depth ≡ answer
   pub decided : IsDecided answer
@@ -25,21 +25,28 @@ pub record Outside : Type 0 where
 abbrev pub outside : ℕ → ℕ → Outside
 outside reads tells = record { read_faults = reads; tell_faults = tells }
 
--- a failure is blamed only where a count rose
-abbrev pub Because : {A : Type 0} → Result A Stop → Outside → Outside → Type 0
-Because (Ok v) old new = Unit {0}
-Because (Err (stop.Tex f)) old new = Unit {0}
-Because (Err (stop.Limit n)) old new = Unit {0}
-Because (Err stop.ReadFailed) old new = Rose old.read_faults new.read_faults
-Because (Err stop.TellFailed) old new = Rose old.tell_faults new.tell_faults
-Because (Err stop.NoMemory) old new = Unit {0}
+-- a count rose where it is blamed, and else it is as before
+abbrev pub ReadsBecause : {A : Type 0} → Result A Stop → ℕ → ℕ → Type 0
+ReadsBecause (Ok v) old new = new ≡ old
+ReadsBecause (Err (stop.Tex f)) old new = new ≡ old
+ReadsBecause (Err (stop.Limit n)) old new = new ≡ old
+ReadsBecause (Err stop.ReadFailed) old new = Rose old new
+ReadsBecause (Err stop.TellFailed) old new = new ≡ old
+ReadsBecause (Err stop.NoMemory) old new = new ≡ old
 
--- counts of faults don't fall, and one rose where reading or telling is blamed; the stop is kept
+abbrev pub TellsBecause : {A : Type 0} → Result A Stop → ℕ → ℕ → Type 0
+TellsBecause (Ok v) old new = new ≡ old
+TellsBecause (Err (stop.Tex f)) old new = new ≡ old
+TellsBecause (Err (stop.Limit n)) old new = new ≡ old
+TellsBecause (Err stop.ReadFailed) old new = new ≡ old
+TellsBecause (Err stop.TellFailed) old new = Rose old new
+TellsBecause (Err stop.NoMemory) old new = new ≡ old
+
+-- the count of the files rose where reading is blamed, that of who is told where telling is, and no other did; the stop is kept
 pub record Stops {A : Type 0} (result : Result A Stop) (old new : Outside) (kept_stop : Option Stop) : Type 0 where
   pub kept : kept_stop ≡ stop_after result
-  pub reads : old.read_faults ≤ new.read_faults
-  pub tells : old.tell_faults ≤ new.tell_faults
-  pub because : Because result old new
+  pub reads : ReadsBecause result old.read_faults new.read_faults
+  pub tells : TellsBecause result old.tell_faults new.tell_faults
 
 -- an answer without gains: the value and the state behind it, or the end. Nothing that can fail is asked
 abbrev pub Silent : {A : Type 0} → Answer A → Result A Stop → State → Type 0
@@ -81,11 +88,11 @@ pub record Lower (k : ℕ) (s t : State) : Type 0 where
   pub nesting : t.nesting ≡ s.nesting
   pub begun : s.begun ≤ t.begun
   pub size : t.begun ≡ s.begun → room t + k ≤ room s
-  pub below : s.begun < t.begun → s.begun < s.limit
+  pub within : s.begun ≤ s.limit → t.begun ≤ t.limit
 
 -- an expansion began between s and t
 pub record Begins (s t : State) : Type 0 where
   pub limit : t.limit ≡ s.limit
   pub nesting : t.nesting ≡ s.nesting
   pub begun : s.begun < t.begun
-  pub below : s.begun < s.limit
+  pub within : s.begun ≤ s.limit → t.begun ≤ t.limit

@@ -6,7 +6,7 @@ use Rattle.texml_watch.specs.Telling.{AllHeard}
 use Rattle.texml_expand.specs.declared.stop.Stop.{Stop}
 use Rattle.texml_expand.specs.declared.stop.Stop.TheVariants as stop
 use Rattle.texml_expand.specs.State.{State, End, Tex, Limit, Gains, Answer, Done, Ended, added}
-use Rattle.texml_expand.specs.Contract.{Gives}
+use Rattle.texml_expand.specs.Contract.{DecidesOn}
 
 -- who wants records hears one, and who wants none stays as they were
 abbrev pub HearsIf : {T : Type 0} → Bool → (T → Record → T → Type 0) → T → Record → T → Type 0
@@ -78,5 +78,5 @@ module _ {T : Type 0} (hear part : T → Record → T → Type 0) where
   -- by the answer that a definition gives
   pub record Follows {A : Type 0} (reading : ℕ → Answer A) (result : Result A Stop) (s : State) (a b : T) : Type 0 where
     pub answer : Answer A
-    pub given : Gives reading answer
+    pub given : DecidesOn reading answer
     pub meets : Meets answer result s a b

@@ -1,13 +1,9 @@
 -- The first token of a rest (The TeXbook, chapters 7 and 8).
-use Rattle.std.specs.Prelude.{◌≡◌, ℕ, Bool, true, false, ◌||◌, List, [], ◌∷◌, Option, Some, None, Result, Ok, Err}
+use Rattle.std.specs.Prelude.{ℕ, Bool, true, false, ◌||◌, List, [], ◌∷◌, Option}
 use Rattle.texml_token.specs.Token.{Token}
-use Rattle.texml_token.specs.Numbers.{Table, token_at, TokenWithin}
 use Rattle.texml_mouth.specs.Mouth.{Spot, Bite, Gives, Dry, Bad, bites}
 use Rattle.texml_text.specs.Lines.{loaded}
 use Rattle.texml_expand.specs.Rest.{Page, Item, Tok, Frozen, Text, Place, page, start}
-use Rattle.texml_expand.specs.declared.rest.Read.{Read}
-use Rattle.texml_expand.specs.declared.rest.RestFault.{RestFault}
-use Rattle.texml_expand.specs.declared.rest.RestFault.TheVariants as fault
 
 -- a token, whether it is kept from being expanded, and whether a text has ended before it
 pub record Taken : Type 0 where
@@ -57,25 +53,3 @@ module _ (cats : ℕ → ℕ) (end : Option ℕ) where
   next (Tok t ∷ rest) place = Got (taken t false) rest place
   next (Frozen t ∷ rest) place = Got (taken t true) rest place
   next (Text p ∷ rest) place = page_next rest (next rest) p place
-
--- what the code's answers stand for
-abbrev pub read_at : Table → Read → Taken
-read_at texts r = record { token = token_at texts r.token; frozen = r.frozen; crossed = r.crossed }
-
-abbrev pub given_at : Table → Result (Option Read) RestFault → Result (Option Taken) RestFault
-given_at texts (Ok (Some r)) = Ok (Some (read_at texts r))
-given_at texts (Ok None) = Ok None
-given_at texts (Err f) = Err f
-
--- so many names give the token of an answer
-abbrev pub GivenWithin : ℕ → Result (Option Read) RestFault → Type 0
-GivenWithin count (Ok (Some r)) = TokenWithin count r.token
-GivenWithin count (Ok None) = Unit {0}
-GivenWithin count (Err f) = Unit {0}
-
--- an answer is what the rest gives first; the items and the place are those behind it
-abbrev pub Meets : Given → Result (Option Taken) RestFault → List (Item Token) → Place → Type 0
-Meets g (Ok (Some r)) rest place = g ≡ Got r rest place
-Meets g (Ok None) rest place = (g ≡ AtEnd place) × (rest ≡ [])
-Meets g (Err (fault.Invalid c)) rest place = g ≡ Invalid c place
-Meets g (Err fault.NoMemory) rest place = Unit {0}

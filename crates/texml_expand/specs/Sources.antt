@@ -1,4 +1,4 @@
--- What a rest of the code holds.
+-- Only contracts of private functions need these: what a rest of the code holds.
 use Rattle.std.specs.Prelude.{List, reverse, map}
 use Rattle.texml_token.specs.declared.tokens.Token.{Token as TokenCode}
 use Rattle.texml_expand.specs.Rest.{Item, Tok, Frozen, Text}

@@ -1,31 +1,26 @@
 -- A state of the engine, and what a reading answers from one.
-use Rattle.std.specs.Prelude.{ℕ, ◌+◌, List, [], ◌∷◌, ◌++◌, length, sum_by, Option, Some}
+use Rattle.std.specs.Prelude.{ℕ, ◌+◌, List, [], ◌∷◌, ◌++◌, length, sum_by, Option}
+use Rattle.std.specs.Option.{option_to_list}
 use Rattle.texml_token.specs.Token.{Token}
 use Rattle.texml_token.specs.declared.fault.Fault.{Fault}
 use Rattle.texml_scope.specs.Texts.{World}
 use Rattle.texml_watch.specs.declared.record.Record.{Record}
-use Rattle.texml_expand.specs.Categories.{initial_category}
 use Rattle.texml_expand.specs.Rest.{Item, Place, size}
 
--- what names mean, what is still to be read, the expansions begun, their limit, how many are open, and the place of the line last loaded
+-- what names mean, what is still to be read, the token that comes after the next assignment, the expansions begun, their limit, how many are open,
+-- and the place of the line last loaded
 pub record State : Type 0 where
   pub world : World
   pub rest : List (Item Token)
+  pub kept : Option Token
   pub begun : ℕ
   pub limit : ℕ
   pub nesting : ℕ
   pub place : Place
 
--- how much may still be read where no expansion begins: the rest, and the tokens that are kept for after groups
+-- how much may still be read where no expansion begins: the rest, and the tokens that are kept for after groups and for after an assignment
 abbrev pub room : State → ℕ
-room s = size s.rest + sum_by (λ g. length g.after) s.world.groups
-
--- the categories and the end character of a world; no command changes them yet
-abbrev pub cats_of : World → ℕ → ℕ
-cats_of w = initial_category
-
-abbrev pub end_of : World → Option ℕ
-end_of w = Some 13
+room s = size s.rest + sum_by (λ g. length g.after) s.world.groups + length (option_to_list s.kept)
 
 -- what ends a run early: a fault of the text, or the limit
 pub data End : Type 0 where

@@ -1,18 +1,39 @@
--- One step of a text, and one turn at the front of a rest.
-use Rattle.std.specs.Prelude.{◌≡◌, ℕ, ◌+◌, ◌≤◌, true, false, List, [], ◌∷◌, Option, Result, Ok, Err}
+-- Only contracts of private functions need these: what a rest of the code answers, one step of a text, and one turn at the front of a rest.
+use Rattle.std.specs.Prelude.{◌≡◌, ℕ, ◌+◌, ◌≤◌, true, false, List, [], ◌∷◌, Option, Some, None, Result, Ok, Err}
 use Rattle.texml_token.specs.Token.{Token}
 use Rattle.texml_token.specs.Numbers.{Table, token_at, TokenWithin}
 use Rattle.texml_token.specs.declared.tokens.Token.{Token as TokenCode}
 use Rattle.texml_mouth.specs.declared.MouthFault.{MouthFault}
 use Rattle.texml_mouth.specs.declared.MouthFault.TheVariants as mouth
 use Rattle.texml_expand.specs.Rest.{Page, Item, Text, Place, page_size, size}
-use Rattle.texml_expand.specs.Next.{Given, Got, AtEnd, Invalid, behind, taken, place_in, page_next, next}
+use Rattle.texml_expand.specs.Next.{Taken, Given, Got, AtEnd, Invalid, behind, taken, place_in, page_next, next}
+use Rattle.texml_expand.specs.Held.{read_at}
+use Rattle.texml_expand.specs.declared.rest.Read.{Read}
 use Rattle.texml_expand.specs.declared.rest.RestFault.{RestFault}
 use Rattle.texml_expand.specs.declared.rest.RestFault.TheVariants as fault
 use Rattle.texml_expand.specs.declared.rest.Step.{Step}
 use Rattle.texml_expand.specs.declared.rest.Step.TheVariants as step
 use Rattle.texml_expand.specs.declared.rest.Turn.{Turn}
 use Rattle.texml_expand.specs.declared.rest.Turn.TheVariants as turn
+
+-- what the code's answers stand for
+abbrev pub given_at : Table → Result (Option Read) RestFault → Result (Option Taken) RestFault
+given_at texts (Ok (Some r)) = Ok (Some (read_at texts r))
+given_at texts (Ok None) = Ok None
+given_at texts (Err f) = Err f
+
+-- so many names give the token of an answer
+abbrev pub GivenWithin : ℕ → Result (Option Read) RestFault → Type 0
+GivenWithin count (Ok (Some r)) = TokenWithin count r.token
+GivenWithin count (Ok None) = Unit {0}
+GivenWithin count (Err f) = Unit {0}
+
+-- an answer is what the rest gives first; the items and the place are those behind it
+abbrev pub IsNext : Given → Result (Option Taken) RestFault → List (Item Token) → Place → Type 0
+IsNext g (Ok (Some r)) rest place = g ≡ Got r rest place
+IsNext g (Ok None) rest place = (g ≡ AtEnd place) × (rest ≡ [])
+IsNext g (Err (fault.Invalid c)) rest place = g ≡ Invalid c place
+IsNext g (Err fault.NoMemory) rest place = Unit {0}
 
 -- the fault of a rest that a fault of its line is
 abbrev pub fault_of : MouthFault → RestFault

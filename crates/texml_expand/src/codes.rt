@@ -1,42 +1,43 @@
-//! The categories that a run starts with.
-ghost use Rattle.std.specs.Prelude.{◌≡◌};
-ghost use Rattle.texml_expand.specs.Categories.{initial_category};
+//! The categories of characters and the end character, as a scope has them.
+ghost use Rattle.std.specs.Prelude.{◌≡◌, ◌<◌};
+ghost use Rattle.texml_scope.specs.Shown.{world_of};
+ghost use Rattle.texml_expand.specs.Codes.{cats_of, end_of};
 
 use texml_mouth::Codes;
+use texml_scope::{Key, Scope};
 use texml_token::category;
 
-/// The categories that a run starts with (The TeXbook, chapter 7).
-#[derive(Clone, Copy, Debug)]
-pub struct InitialCodes;
+/// The categories that characters have in a scope.
+pub struct ScopeCodes<'a>(pub &'a Scope);
 
-impl Codes for InitialCodes {
-    ghost cats = { λ _. initial_category };
+impl<'a> Codes for ScopeCodes<'a> {
+    ghost use Rattle.texml_scope.specs.Shown.{world_of};
+    ghost use Rattle.texml_expand.specs.Codes.{cats_of};
+
+    ghost cats = { λ codes. cats_of (world_of codes.0.now) };
 
     fn category(&self, code: u32) -> u8 {
-        category_of(code)
+        category_in(self.0, code)
     }
 }
 
-// The category of a character at the start.
-fn category_of(code: u32) -> u8
-    ensures { result ≡ initial_category code }
+// The category of a character.
+fn category_in(scope: &Scope, code: u32) -> u8
+    ensures value { result ≡ cats_of (world_of scope.now) code }
+    ensures below { result < 16 }
 {
-    match code {
-        0x41..=0x5a | 0x61..=0x7a => category::LETTER,
-        0x5c => category::ESCAPE,
-        0x7b => category::BEGIN_GROUP,
-        0x7d => category::END_GROUP,
-        0x24 => category::MATH_SHIFT,
-        0x26 => category::ALIGNMENT,
-        0x0d => category::END_OF_LINE,
-        0x23 => category::PARAMETER,
-        0x5e => category::SUPERSCRIPT,
-        0x5f => category::SUBSCRIPT,
-        0x00 => category::IGNORED,
-        0x20 | 0x09 => category::SPACE,
-        0x7e => category::ACTIVE,
-        0x25 => category::COMMENT,
-        0x7f => category::INVALID,
-        _ => category::OTHER,
+    match scope.number(&Key::Cat(code)) {
+        Some(category) => category as u8,
+        None => category::OTHER,
+    }
+}
+
+/// The character at the end of each line that is loaded, if there is one.
+pub fn end_character(scope: &Scope) -> Option<char>
+    ensures { result ≡ end_of (world_of scope.now) }
+{
+    match scope.number(&Key::EndLineChar) {
+        Some(code) if code >= 0 => char::from_u32(code as u32),
+        _ => None,
     }
 }

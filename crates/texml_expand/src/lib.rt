@@ -10,12 +10,14 @@
 
 mod codes;
 mod engine;
+mod feeding;
+mod group;
 mod laws;
 mod rest;
 mod stop;
 
-pub use codes::InitialCodes;
-pub use engine::Engine;
+pub use codes::{ScopeCodes, end_character};
+pub use engine::{ESCAPE, Engine};
 pub use laws::{always_decides, decides_once};
 pub use rest::Read;
 pub use stop::Stop;

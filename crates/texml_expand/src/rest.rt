@@ -5,9 +5,9 @@ ghost use Rattle.std.specs.Str.{chars};
 ghost use Rattle.texml_token.specs.Numbers.{TokenWithin, Extends, Numbered};
 ghost use Rattle.texml_text.specs.Lines.{lines, without_mark};
 ghost use Rattle.texml_expand.specs.Rest.{Tok, Frozen, Text, back_as, fresh, items_at, ItemsWithin, size};
-ghost use Rattle.texml_expand.specs.Next.{next, given_at, GivenWithin, Meets, place_in};
+ghost use Rattle.texml_expand.specs.Next.{next, place_in};
 ghost use Rattle.texml_expand.specs.Sources.{item_of, items_of};
-ghost use Rattle.texml_expand.specs.Turning.{fault_of, Steps, StepFalls, StepWithin, Turns, TurnFalls, TurnWithin};
+ghost use Rattle.texml_expand.specs.Turning.{given_at, GivenWithin, IsNext, fault_of, Steps, StepFalls, StepWithin, Turns, TurnFalls, TurnWithin};
 
 use std::alloc::{AllocError, Global};
 use std::marker::Model;
@@ -144,8 +144,9 @@ impl Rest {
         end: Option<char>,
         names: &mut Names,
     ) -> Result<Option<Read>, RestFault>
-        requires { ItemsWithin (length names.old) self.old.items }
-        ensures next { Meets (next (C.cats codes.now) end (items_at names.old self.old.items) self.old.place) (given_at names.new result) (items_at names.new self.new.items) self.new.place }
+        requires within { ItemsWithin (length names.old) self.old.items }
+        requires numbered { Numbered names.old }
+        ensures next { IsNext (next (C.cats codes.now) end (items_at names.old self.old.items) self.old.place) (given_at names.new result) (items_at names.new self.new.items) self.new.place }
         ensures grows { Extends names.old names.new }
         ensures numbered { Numbered names.new }
         ensures within { OnOk result (ItemsWithin (length names.new) self.new.items) }
@@ -179,7 +180,8 @@ impl Rest {
         end: Option<char>,
         names: &mut Names,
     ) -> Result<Turn, RestFault>
-        requires { ItemsWithin (length names.old) self.old.items }
+        requires within { ItemsWithin (length names.old) self.old.items }
+        requires numbered { Numbered names.old }
         ensures turns { Turns (C.cats codes.now) end names.new (items_at names.old self.old.items) self.old.place result (items_at names.new self.new.items) self.new.place }
         ensures grows { Extends names.old names.new }
         ensures numbered { Numbered names.new }
@@ -187,8 +189,6 @@ impl Rest {
         ensures given { IfOk result (TurnWithin (length names.new)) }
         ensures lower { IfOk result (λ turn. TurnFalls self.old.items turn self.new.items) }
     {
-        // The count brings with it that the texts of the table are numbered.
-        let _given = names.given();
         match self.sources.pop() {
             None => Ok(Turn::End),
             Some(Source::Token(token)) => Ok(Turn::Token(token, false)),
@@ -426,6 +426,7 @@ mod tests {
             Token::Char(code, _) => write!(into, "{}", char::from_u32(code).unwrap_or('?'))?,
             Token::Active(code) => write!(into, "<{code}>")?,
             Token::Named(name) => write!(into, "\\{}", name.0)?,
+            Token::Param(number) => write!(into, "#{number}")?,
         }
         Ok(())
     }

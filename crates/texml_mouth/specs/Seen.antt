@@ -3,7 +3,7 @@ use Rattle.std.specs.Prelude.{◌≡◌, ◌≤◌, ℕ, List, [], ◌++◌, len
 use Rattle.std.specs.Option.{option_to_list}
 use Rattle.std.specs.List.{All}
 use Rattle.std.specs.Char.{IsScalar}
-use Rattle.texml_token.specs.Token.{Token, Char, Active, Named, Fixed}
+use Rattle.texml_token.specs.Token.{Token, Char, Active, Param, Named, Fixed}
 use Rattle.texml_token.specs.Numbers.{Table, with_text, token_at, TokenWithin}
 use Rattle.texml_token.specs.declared.tokens.Token.{Token as TokenCode}
 use Rattle.texml_mouth.specs.declared.MouthFault.{MouthFault}
@@ -48,6 +48,7 @@ Bitten b (Err NoMemory) spot = Unit {0}
 abbrev pub table_behind : Table → Result (Option Token) MouthFault → Table
 table_behind texts (Ok (Some (Char c category))) = texts
 table_behind texts (Ok (Some (Active c))) = texts
+table_behind texts (Ok (Some (Param n))) = texts
 table_behind texts (Ok (Some (Named text))) = with_text texts text
 table_behind texts (Ok (Some Fixed)) = texts
 table_behind texts (Ok None) = texts

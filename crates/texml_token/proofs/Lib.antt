@@ -4,3 +4,4 @@ pub mod Same
 pub mod Writing
 pub mod Scalar
 pub mod Rows
+pub mod Naming

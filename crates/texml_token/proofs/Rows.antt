@@ -1,7 +1,9 @@
 -- The definitions computed on small values.
 use Rattle.std.proofs.Common.{◌≡◌, ◌++◌, pos, negsuc, [], ◌∷◌, false, refl, codes, arith}
-use Rattle.texml_token.specs.Token.{Token, Char, Active, Named, token_eq}
-use Rattle.texml_token.specs.Numbers.{Table, text_at, number_of, with_text, name_at, IsCharCategory}
+use Rattle.texml_token.specs.Token.{Token, Char, Active, Param, Named, token_eq}
+use Rattle.texml_token.specs.Pieces.{Just, Slot, AreNumberedFrom, slots_in}
+use Rattle.texml_token.specs.Numbers.{Table, text_at, number_of, with_text, name_at, pieces_at, IsCharCategory}
+use Rattle.texml_token.specs.declared.tokens.Token.TheVariants as tokens
 use Rattle.texml_token.specs.Spelling.{spelled, shown}
 
 -- a table in which the text `relax` was used second
@@ -60,3 +62,16 @@ space_is_a_category = (omega arith, omega arith, (λ e. omega (arith, e)), (λ e
 
 pub end_of_line_is_none : IsCharCategory 5 → ⊥
 end_of_line_is_none h = h.2 refl
+
+-- the parameter text #1\relax #2
+pub pieces_by_texts : pieces_at two (Slot 1 ∷ Just (tokens.Named (record { 0 = 2 })) ∷ Slot 2 ∷ []) ≡ Slot 1 ∷ Just (Named (codes "relax")) ∷ Slot 2 ∷ []
+pieces_by_texts = refl
+
+pub two_parameters : slots_in (Slot 1 ∷ Just (Char 46 12) ∷ Slot 2 ∷ []) ≡ 2
+two_parameters = refl
+
+pub numbered_in_order : AreNumberedFrom 1 (Slot 1 ∷ Just (Char 46 12) ∷ Slot 2 ∷ [])
+numbered_in_order = (refl, (refl, tt))
+
+pub shown_place : shown (Param 2 ∷ []) ≡ codes "#2"
+shown_place = refl

@@ -1,4 +1,4 @@
--- Two tokens, and two lists of tokens, are told apart by `==`.
+-- `==` tells two tokens, two pieces, and two lists of them apart.
 use Rattle.std.proofs.Common.{rules, ◌≡◌, Decides, Bool, List, refl}
 use Rattle.std.specs.Cmp.Lexicographic.{pointwise}
 use Rattle.std.proofs.lemmas.Slice.Eq.{slice_eq-Decides}

@@ -78,6 +78,7 @@ module _ (texts : Table) (g : TextsAreScalar texts) where
   pub spelled_scalar : (escape : ℤ) (t : TokenCode) → TokenWithin (length texts) t → All IsScalar (spelled escape (token_at texts t))
   spelled_scalar escape (tokens.Char c category) h = one c h.0
   spelled_scalar escape (tokens.Active c) h = one c h
+  spelled_scalar escape (tokens.Param n) h = absurd h
   spelled_scalar escape (tokens.Named name) h = spelled_at escape name.0 h
 
   shown_at : (n : ℕ) → n ≤ length texts → All IsScalar (shown_token (name_at texts n))
@@ -87,6 +88,7 @@ module _ (texts : Table) (g : TextsAreScalar texts) where
   pub shown_token_scalar : (t : TokenCode) → TokenWithin (length texts) t → All IsScalar (shown_token (token_at texts t))
   shown_token_scalar (tokens.Char c category) h = shown_code_scalar c h.0
   shown_token_scalar (tokens.Active c) h = shown_code_scalar c h
+  shown_token_scalar (tokens.Param n) h = absurd h
   shown_token_scalar (tokens.Named name) h = shown_at name.0 h
 
   pub shown_scalar : (ts : List TokenCode) → TokensWithin (length texts) ts → All IsScalar (shown (tokens_at texts ts))

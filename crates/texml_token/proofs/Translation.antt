@@ -1,10 +1,12 @@
 -- What tokens by number stand for, as the table grows.
-use Rattle.std.proofs.Common.{◌≡◌, ◌≤◌, ℕ, zero, suc, Bool, true, false, List, [], ◌∷◌, map, length, refl, sym, ap, ap₂, ◌∙◌, arith, nat_eq, true≢false, rules}
+use Rattle.std.proofs.Common.{◌≡◌, ◌≤◌, ℕ, zero, suc, Bool, true, false, List, [], ◌∷◌, map, Option, None, Some, option_map, length, refl, sym, ap, ap₂, ◌∙◌, arith, nat_eq, true≢false, rules}
 use Rattle.std.specs.List.{All}
 use Rattle.std.proofs.lemmas.Bool.{eq-eqb, ne_eqb}
 use Rattle.std.proofs.lemmas.List.Elements.{All-head, All-tail}
 use Rattle.texml_token.specs.Token.{Char, Active, Named, text_eq, token_eq}
-use Rattle.texml_token.specs.Numbers.{Table, text_at, number_of, Numbered, Extends, name_at, token_at, tokens_at, TokenWithin, TokensWithin}
+use Rattle.texml_token.specs.Pieces.{Params, Just, Slot}
+use Rattle.texml_token.specs.Numbers.{Table, text_at, number_of, Numbered, Extends, name_at, token_at, tokens_at, piece_at, pieces_at, params_at, TokenWithin, TokensWithin, BodyTokenWithin, BodyWithin, PieceWithin, OptionWithin, ParamsWithin}
+use Rattle.texml_token.specs.declared.pieces.PieceOf.{PieceOf}
 use Rattle.texml_token.specs.declared.tokens.Token.{Token as TokenCode}
 use Rattle.texml_token.specs.declared.tokens.Token.TheVariants as tokens
 use Rattle.texml_token.specs.contracts.tokens.TokenPartialEq.TheImpl as tokens_eq
@@ -24,19 +26,82 @@ module _ (old new : Table) (g : Extends old new) where
   pub token_kept : (t : TokenCode) → TokenWithin (length old) t → token_at new t ≡ token_at old t
   token_kept (tokens.Char c category) h = refl
   token_kept (tokens.Active c) h = refl
+  token_kept (tokens.Param n) h = refl
   token_kept (tokens.Named name) h = name_kept name.0 h
 
   pub tokens_kept : (ts : List TokenCode) → TokensWithin (length old) ts → tokens_at new ts ≡ tokens_at old ts
   tokens_kept ts h = map_same (token_at new) (token_at old) (TokenWithin (length old)) token_kept ts h
 
+  pub body_token_kept : (slots : ℕ) (t : TokenCode) → BodyTokenWithin (length old) slots t → token_at new t ≡ token_at old t
+  body_token_kept slots (tokens.Char c category) h = refl
+  body_token_kept slots (tokens.Active c) h = refl
+  body_token_kept slots (tokens.Param n) h = refl
+  body_token_kept slots (tokens.Named name) h = name_kept name.0 h
+
+  pub body_kept : (slots : ℕ) (ts : List TokenCode) → BodyWithin (length old) slots ts → tokens_at new ts ≡ tokens_at old ts
+  body_kept slots ts h = map_same (token_at new) (token_at old) (BodyTokenWithin (length old) slots) (body_token_kept slots) ts h
+
+  piece_kept : (p : PieceOf TokenCode) → PieceWithin (length old) p → piece_at new p ≡ piece_at old p
+  piece_kept (Just t) h = ap Just (token_kept t h.0)
+  piece_kept (Slot n) h = refl
+
+  pub pieces_kept : (ps : List (PieceOf TokenCode)) → All (PieceWithin (length old)) ps → pieces_at new ps ≡ pieces_at old ps
+  pieces_kept ps h = map_same (piece_at new) (piece_at old) (PieceWithin (length old)) piece_kept ps h
+
+  default_kept : (list : Option (List TokenCode)) → OptionWithin (TokensWithin (length old)) list → option_map (tokens_at new) list ≡ option_map (tokens_at old) list
+  default_kept None h = refl
+  default_kept (Some list) h = ap Some (tokens_kept list h)
+
+  pub params_kept : (p : Params TokenCode) → ParamsWithin (length old) p → params_at new p ≡ params_at old p
+  params_kept p h = ap₂ (λ list ps. record { default = list; pieces = ps }) (default_kept p.default h.default) (pieces_kept p.pieces h.pieces)
+
 -- more names, and all are still given
 pub token_more : (m n : ℕ) → m ≤ n → (t : TokenCode) → TokenWithin m t → TokenWithin n t
 token_more m n le (tokens.Char c category) h = h
 token_more m n le (tokens.Active c) h = h
+token_more m n le (tokens.Param k) h = h
 token_more m n le (tokens.Named name) h = omega (arith, h)
 
 pub tokens_more : (m n : ℕ) → m ≤ n → (ts : List TokenCode) → TokensWithin m ts → TokensWithin n ts
 tokens_more m n le ts h = λ k d lt. token_more m n le _ (h k d lt)
+
+pub body_token_more : (m n : ℕ) → m ≤ n → (slots : ℕ) (t : TokenCode) → BodyTokenWithin m slots t → BodyTokenWithin n slots t
+body_token_more m n le slots (tokens.Char c category) h = h
+body_token_more m n le slots (tokens.Active c) h = h
+body_token_more m n le slots (tokens.Param k) h = h
+body_token_more m n le slots (tokens.Named name) h = omega (arith, h)
+
+pub body_more : (m n : ℕ) → m ≤ n → (slots : ℕ) (ts : List TokenCode) → BodyWithin m slots ts → BodyWithin n slots ts
+body_more m n le slots ts h = λ k d lt. body_token_more m n le slots _ (h k d lt)
+
+piece_more : (m n : ℕ) → m ≤ n → (p : PieceOf TokenCode) → PieceWithin m p → PieceWithin n p
+piece_more m n le (Just t) h = (token_more m n le t h.0, h.1)
+piece_more m n le (Slot k) h = tt
+
+default_more : (m n : ℕ) → m ≤ n → (list : Option (List TokenCode)) → OptionWithin (TokensWithin m) list → OptionWithin (TokensWithin n) list
+default_more m n le None h = tt
+default_more m n le (Some list) h = tokens_more m n le list h
+
+pub params_more : (m n : ℕ) → m ≤ n → (p : Params TokenCode) → ParamsWithin m p → ParamsWithin n p
+params_more m n le p h = record {
+  default = default_more m n le p.default h.default;
+  pieces = λ k d lt. piece_more m n le _ (h.pieces k d lt);
+  shape = h.shape;
+}
+
+-- a token that stands anywhere may stand in a body
+pub body_token : (count slots : ℕ) (t : TokenCode) → TokenWithin count t → BodyTokenWithin count slots t
+body_token count slots (tokens.Char c category) h = h
+body_token count slots (tokens.Active c) h = h
+body_token count slots (tokens.Param n) h = absurd h
+body_token count slots (tokens.Named name) h = h
+
+-- and in a body without parameters each token is one
+pub plain_token : (count : ℕ) (t : TokenCode) → BodyTokenWithin count 0 t → TokenWithin count t
+plain_token count (tokens.Char c category) h = h
+plain_token count (tokens.Active c) h = h
+plain_token count (tokens.Param n) h = omega (arith, h.0, h.1)
+plain_token count (tokens.Named name) h = h
 
 module _ (texts : Table) (g : Numbered texts) where
   -- a given name has the number of a text exactly where it has the text
@@ -57,33 +122,30 @@ module _ (texts : Table) (g : Numbered texts) where
   names_agree (suc m) zero b d = sym (ne_eqb (suc m) 0 (λ e. omega (arith, e)))
   names_agree (suc m) (suc n) b d = text_same_number (suc m) (suc n) (omega arith) b (omega arith) d
 
-  char_name : (c k n : ℕ) → token_eq (Char c k) (name_at texts n) ≡ false
-  char_name c k zero = refl
-  char_name c k (suc n) = refl
+  -- a name is no other token
+  no_name : (n : ℕ) → ((c k : ℕ) → token_eq (Char c k) (name_at texts n) ≡ false) × ((c : ℕ) → token_eq (Active c) (name_at texts n) ≡ false)
+  no_name zero = (λ c k. refl, λ c. refl)
+  no_name (suc n) = (λ c k. refl, λ c. refl)
 
-  name_char : (c k n : ℕ) → token_eq (name_at texts n) (Char c k) ≡ false
-  name_char c k zero = refl
-  name_char c k (suc n) = refl
-
-  active_name : (c n : ℕ) → token_eq (Active c) (name_at texts n) ≡ false
-  active_name c zero = refl
-  active_name c (suc n) = refl
-
-  name_active : (c n : ℕ) → token_eq (name_at texts n) (Active c) ≡ false
-  name_active c zero = refl
-  name_active c (suc n) = refl
+  name_is_no : (n : ℕ) → ((c k : ℕ) → token_eq (name_at texts n) (Char c k) ≡ false) × ((c : ℕ) → token_eq (name_at texts n) (Active c) ≡ false)
+  name_is_no zero = (λ c k. refl, λ c. refl)
+  name_is_no (suc n) = (λ c k. refl, λ c. refl)
 
   -- and so for tokens
   pub tokens_agree : (t u : TokenCode) → TokenWithin (length texts) t → TokenWithin (length texts) u → token_eq (token_at texts t) (token_at texts u) ≡ tokens_eq.eq-value.it t u
   tokens_agree (tokens.Char c k) (tokens.Char d l) h i = search rules
   tokens_agree (tokens.Char c k) (tokens.Active d) h i = refl
-  tokens_agree (tokens.Char c k) (tokens.Named n) h i = char_name c k n.0
+  tokens_agree (tokens.Char c k) (tokens.Named n) h i = (no_name n.0).0 c k
   tokens_agree (tokens.Active c) (tokens.Char d l) h i = refl
   tokens_agree (tokens.Active c) (tokens.Active d) h i = search rules
-  tokens_agree (tokens.Active c) (tokens.Named n) h i = active_name c n.0
-  tokens_agree (tokens.Named n) (tokens.Char d l) h i = name_char d l n.0
-  tokens_agree (tokens.Named n) (tokens.Active d) h i = name_active d n.0
+  tokens_agree (tokens.Active c) (tokens.Named n) h i = (no_name n.0).1 c
+  tokens_agree (tokens.Named n) (tokens.Char d l) h i = (name_is_no n.0).0 d l
+  tokens_agree (tokens.Named n) (tokens.Active d) h i = (name_is_no n.0).1 d
   tokens_agree (tokens.Named m) (tokens.Named n) h i = names_agree m.0 n.0 h i
+  tokens_agree (tokens.Param m) u h i = absurd h
+  tokens_agree (tokens.Char c k) (tokens.Param n) h i = absurd i
+  tokens_agree (tokens.Active c) (tokens.Param n) h i = absurd i
+  tokens_agree (tokens.Named m) (tokens.Param n) h i = absurd i
 
   token_eq_itself : (t : TokenCode) → tokens_eq.eq-value.it t t ≡ true
   token_eq_itself t = (token-decides t t).1 refl

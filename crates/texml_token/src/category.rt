@@ -47,3 +47,36 @@ pub const COMMENT: u8 = 14;
 
 /// May not stand in a file, as code 127 may not at first.
 pub const INVALID: u8 = 15;
+
+// The numbers are promised to users.
+const _: () = prove!(ESCAPE == 0);
+
+const _: () = prove!(BEGIN_GROUP == 1);
+
+const _: () = prove!(END_GROUP == 2);
+
+const _: () = prove!(MATH_SHIFT == 3);
+
+const _: () = prove!(ALIGNMENT == 4);
+
+const _: () = prove!(END_OF_LINE == 5);
+
+const _: () = prove!(PARAMETER == 6);
+
+const _: () = prove!(SUPERSCRIPT == 7);
+
+const _: () = prove!(SUBSCRIPT == 8);
+
+const _: () = prove!(IGNORED == 9);
+
+const _: () = prove!(SPACE == 10);
+
+const _: () = prove!(LETTER == 11);
+
+const _: () = prove!(OTHER == 12);
+
+const _: () = prove!(ACTIVE == 13);
+
+const _: () = prove!(COMMENT == 14);
+
+const _: () = prove!(INVALID == 15);

@@ -29,6 +29,7 @@ pub fn spell(token: Token, escape: i32, names: &Names, into: &mut Bytes) -> Resu
         Token::Char(code, _) => push_code(code, &mut text)?,
         Token::Active(code) => push_code(code, &mut text)?,
         Token::Named(name) => spell_name(names.text(name), escape, &mut text)?,
+        Token::Param(_) => unreachable!(),
     }
     into.extend(text.as_slice())
 }
@@ -106,6 +107,7 @@ fn show_token(token: Token, names: &Names, into: &mut Bytes) -> Result<(), Alloc
         Token::Char(code, _) => show_code(code, into),
         Token::Active(code) => show_code(code, into),
         Token::Named(name) => show_name(names.text(name), into),
+        Token::Param(_) => unreachable!(),
     }
 }
 

@@ -4,8 +4,10 @@ ghost use Rattle.std.specs.Prelude.{◌≤◌, IfOk, length};
 ghost use Rattle.texml_token.specs.Numbers.{TokenWithin};
 
 use crate::category::{LETTER, OTHER};
-use crate::fault_code::UNDEFINED;
-use crate::{Bytes, Fault, Line, Name, Names, Token, Tokens, show, spell};
+use crate::fault_code::{DEPTH, UNDEFINED, name_of};
+use crate::{
+    ByteList, Bytes, Fault, Line, Name, Names, Params, Piece, Pieces, Token, Tokens, show, spell,
+};
 use std::alloc::Global;
 use std::process::Abort;
 use std::test::Fail;
@@ -125,8 +127,7 @@ fn lists_are_shown(rt: HostRuntime) -> Result<(), Fail> {
 #[test]
 fn copies_stay_as_they_are(rt: HostRuntime) -> Result<(), Fail> {
     let alloc = rt.alloc();
-    let mut list = Tokens::new(alloc);
-    list.push(Token::Active(126))?;
+    let mut list = Tokens::from_slice(alloc, &[Token::Active(126)])?;
     let copy = list.clone()?;
     list.push(Token::Named(Name(0)))?;
     assert_eq!(rt; copy.as_slice(), [Token::Active(126)].as_slice());
@@ -134,6 +135,34 @@ fn copies_stay_as_they_are(rt: HostRuntime) -> Result<(), Fail> {
         list.as_slice(),
         [Token::Active(126), Token::Named(Name(0))].as_slice()
     );
+    Ok(())
+}
+
+#[test]
+fn parameter_texts_are_compared(rt: HostRuntime) -> Result<(), Fail> {
+    let alloc = rt.alloc();
+    let mut pieces = Pieces::new(alloc);
+    pieces.push(Piece::Slot(1))?;
+    let params = Params {
+        default: None,
+        pieces: pieces.clone()?,
+    };
+    pieces.push(Piece::Just(Token::Char(46, OTHER)))?;
+    assert_eq!(rt; params.pieces.as_slice(), [Piece::Slot(1)].as_slice());
+    assert!(rt; params.pieces != pieces);
+    assert!(rt; params.clone()? == params);
+    Ok(())
+}
+
+#[test]
+fn faults_have_names(rt: HostRuntime) -> Result<(), Fail> {
+    let alloc = rt.alloc();
+    let mut list = ByteList::new(alloc);
+    for code in [UNDEFINED, DEPTH, 26] {
+        list.push(Bytes::from_slice(alloc, name_of(code).as_bytes())?)?;
+    }
+    assert_eq!(rt; list.as_slice().len(), 3);
+    assert_eq!(rt; list.as_slice()[1].as_slice(), b"Depth".as_slice());
     let fault = Fault {
         code: UNDEFINED,
         file: Bytes::from_slice(alloc, b"a.tex")?,

@@ -1,8 +1,9 @@
 //! Tokens, and lists of them whose parts are shared.
 
-ghost use Rattle.std.specs.Prelude.{◌≡◌, [], ◌∷◌, ◌++◌, OnOk, OnErr};
+ghost use Rattle.std.specs.Prelude.{◌≡◌, ◌↔◌, IsTrue, [], ◌∷◌, ◌++◌, IfOk, OnOk, OnErr};
 
 use std::alloc::{AllocError, Global};
+use std::default::MadeWith;
 use std::marker::Model;
 use std::rc::Rc;
 
@@ -10,12 +11,31 @@ use std::rc::Rc;
 #[derive(Clone, Copy, Debug, PartialEq, Eq, PartialOrd, Ord, Hash)]
 pub struct Name(pub usize);
 
-/// A token: a character with its category, an active character, or a name.
+/// A token: a character with its category, an active character, a name, or, in the body of a macro, the
+/// place of a parameter by its number.
 #[derive(Clone, Copy, Debug, PartialEq, Eq, PartialOrd, Ord, Hash)]
 pub enum Token {
     Char(u32, u8),
     Active(u32),
     Named(Name),
+    Param(u8),
+}
+
+impl Token {
+    ghost use Rattle.texml_token.specs.Token.{has_category};
+    ghost use Rattle.texml_token.specs.Numbers.{Table, token_at};
+
+    /// Whether it is a character of this category.
+    pub fn has_category(self, category: u8) -> bool
+        ensures { (texts : Table) → result ≡ has_category category (token_at texts self) }
+    {
+        match self {
+            Token::Char(_, found) => found == category,
+            Token::Active(_) => false,
+            Token::Named(_) => false,
+            Token::Param(_) => false,
+        }
+    }
 }
 
 /// A list of tokens whose parts are shared by its clones.
@@ -45,6 +65,20 @@ impl Tokens {
             alloc,
             shared: None,
         }
+    }
+
+    /// The list of these tokens.
+    ///
+    /// # Errors
+    ///
+    /// `AllocError` where there is no memory.
+    pub fn from_slice(alloc: Global, tokens: &[Token]) -> Result<Tokens, AllocError>
+        ensures { IfOk result (λ list. list ≡ tokens.now) }
+    {
+        Ok(Tokens {
+            alloc,
+            shared: Some(Rc::new(alloc, Vec::from_slice(alloc, tokens)?)?),
+        })
     }
 
     /// Appends a token. Parts that a clone shares are copied first, so that no other list changes.
@@ -91,6 +125,14 @@ impl Clone for Tokens {
     }
 }
 
+impl MadeWith<Global> for Tokens {
+    ghost is_made_with = { λ list. list ≡ [] };
+
+    fn made_with(alloc: Global) -> Tokens {
+        Tokens::new(alloc)
+    }
+}
+
 impl PartialEq for Tokens {
     ghost eq = { λ x y. pointwise ⟦<Token as PartialEq>⟧.eq x y };
 
@@ -109,4 +151,11 @@ impl Eq for Tokens {
     ghost use Rattle.texml_token.specs.contracts.tokens.TokenEq.TheImpl.Laws.{laws-law};
 
     ghost laws = { lists_equiv laws-law };
+}
+
+/// Whether two lists of tokens are the same.
+pub fn same_tokens(a: &Tokens, b: &Tokens) -> bool
+    ensures { IsTrue result ↔ (a.now ≡ b.now) }
+{
+    *a == *b
 }

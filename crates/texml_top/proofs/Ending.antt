@@ -6,7 +6,7 @@ use Rattle.texml_base.specs.Rising.{Rose}
 use Rattle.texml_base.proofs.Taking.{inked-nil}
 use Rattle.texml_watch.specs.declared.record.Record.{Record}
 use Rattle.texml_watch.specs.Trace.{trace, trace_line}
-use Rattle.texml_watch.specs.Writing.{Lent, Wrote, WrotePart as WroteLine}
+use Rattle.texml_watch.specs.Writing.{Lent, Wrote, BrokeOff}
 use Rattle.texml_watch.proofs.Hearing.{Wrote-trace, Wrote-within, Wrote-front, WroteWithin-front}
 use Rattle.texml_expand.specs.declared.stop.Stop.{Stop}
 use Rattle.texml_expand.specs.declared.stop.Stop.TheVariants as stop
@@ -89,7 +89,7 @@ module _ {T : Type 0} (lent : T → Lent) where
   Hears a news b = Wrote (lent a) (trace_line news) (lent b)
 
   abbrev HearsPart : T → Record → T → Type 0
-  HearsPart a news b = WroteLine (lent a) (trace_line news) (lent b)
+  HearsPart a news b = BrokeOff (lent a) (trace_line news) (lent b)
 
   pub expand_done : (v : List Material) (s new : State) (a b : T) → Follows Hears HearsPart (digests [] s) (Ok v) new a b → FromState Expand s (λ all. MayEnd status.Done all (lent a).ink (lent b).ink)
   expand_done v s new a b g =

@@ -21,7 +21,7 @@ use texml_expand::{Engine, Stop};
 use texml_scope::builtins::{DEF, PAR, RELAX};
 use texml_scope::{GroupKind, Key, Macro, Meaning, ScopeFault, Value};
 use texml_token::{Bytes, Name, Token, Tokens, category, fault_code, spell};
-use texml_watch::{Silent, Teller};
+use texml_watch::{Nobody, Teller};
 
 // The code of the escape character with which faults spell names.
 const ESCAPE: i32 = 92;
@@ -281,7 +281,7 @@ fn next_token<F: Files>(alloc: Global, engine: &mut Engine, files: &mut F) -> Re
     ensures within { IfOk result (TokenWithin (length engine.new.names)) }
     ensures files { files.new ≡ files.old }
 {
-    match engine.take(files, &mut Silent)? {
+    match engine.take(files, &mut Nobody)? {
         Some(read) => Ok(read.token),
         None => Err(fault(alloc, engine, fault_code::FILE_ENDED)),
     }
@@ -396,7 +396,7 @@ fn inner_token<F: Files>(alloc: Global, engine: &mut Engine, files: &mut F) -> R
     ensures within { IfOk result (TokenWithin (length engine.new.names)) }
     ensures files { files.new ≡ files.old }
 {
-    match engine.take(files, &mut Silent)? {
+    match engine.take(files, &mut Nobody)? {
         Some(read) if !read.crossed => Ok(read.token),
         Some(_) => Err(fault(alloc, engine, fault_code::FILE_ENDED)),
         None => Err(fault(alloc, engine, fault_code::FILE_ENDED)),

@@ -15,7 +15,7 @@ use crate::status::Status;
 use std::alloc::Global;
 use texml_base::{Files, Sink};
 use texml_expand::Engine;
-use texml_watch::{Lines, Silent};
+use texml_watch::{Lines, Nobody};
 
 /// Does what the words of a command line ask for: `convert FILE` writes the HTML of a file to `out`, and `expand FILE` a
 /// line for each completed expansion. With `--limit N` behind it at most N expansions begin.
@@ -111,7 +111,7 @@ fn convert<F: Files, S: Sink>(
     ensures page { FromState Convert (state_of engine.old) (WritesPage Convert result) }
     ensures files { files.new ≡ files.old }
 {
-    let material = match digest(alloc, engine, files, &mut Silent) {
+    let material = match digest(alloc, engine, files, &mut Nobody) {
         Ok(material) => material,
         Err(stop) => return Status::from(stop),
     };

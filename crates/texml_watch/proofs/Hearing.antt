@@ -7,7 +7,7 @@ use Rattle.texml_base.proofs.Taking.{inked-append, inked-nil, cut_later, cut_sho
 use Rattle.texml_watch.specs.declared.record.Record.{Record}
 use Rattle.texml_watch.specs.Trace.{trace, trace_line}
 use Rattle.texml_watch.specs.Telling.{AllHeard}
-use Rattle.texml_watch.specs.Writing.{Lent, Wrote, WrotePart, WroteWithin}
+use Rattle.texml_watch.specs.Writing.{Lent, Wrote, BrokeOff, WroteWithin}
 
 -- one record
 pub AllHeard-one : {T : Type 0} (heard : T → Record → T → Type 0) (old new : T) (news : Record) → heard old news new → AllHeard heard old (news ∷ []) new
@@ -41,7 +41,7 @@ pub Wrote-nil : (old new : Lent) → new ≡ old → Wrote old [] new
 Wrote-nil old new same = record {
   loan = ap (λ l. l.loan) same;
   ink = ap (λ l. l.ink) same ∙ sym (inked-nil old.ink);
-  faults = let e = ap (λ l. l.faults) same in omega (arith, e);
+  faults = ap (λ l. l.faults) same;
 }
 
 -- one piece after the other
@@ -49,7 +49,7 @@ pub Wrote-append : (old mid new : Lent) (a b : List ℕ) → Wrote old a mid →
 Wrote-append old mid new a b first then = record {
   loan = then.loan ∙ first.loan;
   ink = then.ink ∙ ap (λ i. inked i b) first.ink ∙ inked-append old.ink a b;
-  faults = omega (arith, first.faults, then.faults);
+  faults = then.faults ∙ first.faults;
 }
 
 -- a chain of trace lines has written the trace
@@ -62,7 +62,7 @@ Wrote-trace lent old new (news ∷ rows) h =
 -- a line in part behind a chain of them has written a prefix of the trace with that line
 pub Wrote-within : {T : Type 0} (lent : T → Lent) (old mid new : T) (rows : List Record) (news : Record)
     → AllHeard (λ o news n. Wrote (lent o) (trace_line news) (lent n)) old rows mid
-    → WrotePart (lent mid) (trace_line news) (lent new) → WroteWithin (lent old) rows news (lent new)
+    → BrokeOff (lent mid) (trace_line news) (lent new) → WroteWithin (lent old) rows news (lent new)
 Wrote-within lent old mid new rows news heard part =
     let first = Wrote-trace lent old mid rows heard in
     let both = trace-append rows (news ∷ []) ∙ ap (λ l. trace rows ++ l) (append-nil (trace_line news)) in

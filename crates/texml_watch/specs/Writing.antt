@@ -11,14 +11,14 @@ pub record Lent : Type 0 where
   pub ink : Ink
   pub faults : ℕ
 
--- the sink has taken these bytes
+-- the sink has taken these bytes, and hasn't failed
 pub record Wrote (old : Lent) (piece : List ℕ) (new : Lent) : Type 0 where
   pub loan : new.loan ≡ old.loan
   pub ink : new.ink ≡ inked old.ink piece
-  pub faults : old.faults ≤ new.faults
+  pub faults : new.faults ≡ old.faults
 
 -- the sink has taken a prefix of these bytes, and nothing where its count of faults didn't rise
-pub record WrotePart (old : Lent) (piece : List ℕ) (new : Lent) : Type 0 where
+pub record BrokeOff (old : Lent) (piece : List ℕ) (new : Lent) : Type 0 where
   pub loan : new.loan ≡ old.loan
   pub ink : (n : ℕ) × (new.ink ≡ inked old.ink (take n piece))
   pub nothing : (Rose old.faults new.faults → ⊥) → new.ink ≡ old.ink

@@ -4,7 +4,7 @@ ghost use Rattle.texml_base.specs.Outside.{Takes, HasCause, HasTroubleCause};
 ghost use Rattle.texml_base.specs.declared.files.Trouble.TheVariants.{NoMemory};
 ghost use Rattle.texml_watch.specs.Trace.{trace_line};
 ghost use Rattle.texml_watch.specs.Lending.{lent_by};
-ghost use Rattle.texml_watch.specs.Writing.{Wrote, WrotePart};
+ghost use Rattle.texml_watch.specs.Writing.{Wrote, BrokeOff};
 
 use crate::record::Record;
 use crate::teller::Teller;
@@ -35,7 +35,7 @@ impl<'a, S: Sink> Teller for Lines<'a, S> {
 
     ghost heard = { λ old news new. Wrote (lent_by S.ink S.faults old) (trace_line news) (lent_by S.ink S.faults new) };
 
-    ghost part = { λ old news new. WrotePart (lent_by S.ink S.faults old) (trace_line news) (lent_by S.ink S.faults new) };
+    ghost part = { λ old news new. BrokeOff (lent_by S.ink S.faults old) (trace_line news) (lent_by S.ink S.faults new) };
 
     ghost faults = { λ l. S.faults l.sink.now };
 
@@ -51,7 +51,7 @@ impl<'a, S: Sink> Teller for Lines<'a, S> {
     fn tell(&mut self, news: &Record) -> Result<(), Trouble>
         ensures told { MatchResult result
             (λ _. Wrote (lent_by S.ink S.faults self.old) (trace_line news.now) (lent_by S.ink S.faults self.new))
-            (λ _. WrotePart (lent_by S.ink S.faults self.old) (trace_line news.now) (lent_by S.ink S.faults self.new)) }
+            (λ _. BrokeOff (lent_by S.ink S.faults self.old) (trace_line news.now) (lent_by S.ink S.faults self.new)) }
         ensures cause { HasTroubleCause (S.faults self.old.sink.now) (S.faults self.new.sink.now) result }
         ensures memory { IsErrOf result NoMemory → ⊥ }
     {

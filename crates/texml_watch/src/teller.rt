@@ -17,7 +17,7 @@ pub trait Teller {
     /// What a record does that it was told in part.
     ghost part: { Self → Record → Self → Type 0 };
 
-    /// How often it has failed. It never falls.
+    /// How often it has failed. Only a telling that answers `Failed` changes it. It ends at the greatest u64.
     ghost faults: { Self → ℕ };
 
     /// Whether it wants records. Being told changes nothing in that.

@@ -91,7 +91,7 @@ fn lines_are_written_or_cut(rt: HostRuntime) -> Result<(), Fail> {
 fn nobody_is_told(rt: HostRuntime) -> Result<(), Fail> {
     let alloc = rt.alloc();
     let news = record(alloc, b"\\x", b"")?;
-    let mut nobody = Silent;
+    let mut nobody = Nobody;
     assert!(rt; !nobody.wants());
     assert_eq!(rt; tell_both(&mut nobody, &news, &news), Ok(()));
     Ok(())

@@ -24,4 +24,4 @@ returns-clause-follows g c =
     (subst P (ap (λ h. h.names) c.in_ok-begin.ensures.is) c.finish.ensures.finishes)
 
 pub returns-clause-keeps : goal.returns-clause-keeps
-returns-clause-keeps g c = finished_kept c.args.self.now c.begin.new.self c.finish.new.self c.args.body.now c.finish.result c.in_ok-begin.ensures.is c.finish.ensures.is c.requires.sound c.requires.body
+returns-clause-keeps g c = finished_kept c.args.self.now c.begin.new.self c.finish.new.self c.args.body.now c.finish.result c.in_ok-begin.ensures.is c.finish.ensures.is c.in_ok-begin.ensures.within c.requires.sound c.requires.body

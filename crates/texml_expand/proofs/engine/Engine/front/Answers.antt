@@ -1,5 +1,4 @@
-use Rattle.texml_expand.specs.Next.{read_at}
-use Rattle.texml_expand.specs.Held.{state_of}
+use Rattle.texml_expand.specs.Held.{state_of, read_at}
 use Rattle.texml_expand.proofs.Fronts.{front_judged, judged_lower}
 use Rattle.texml_expand.proofs.engine.Engine.front.Goals as goal
 

@@ -21,6 +21,7 @@ loop-fault-preserved-in-Ok-Loaded g c =
     record {
       onward = onward_loaded _ _ (next (g.C.Codes.cats c.args.codes.now) c.args.end (items_at c.turn.new.names c.turn.new.self.items) c.turn.new.self.place) _ c.loop-fault.invariant.onward turns;
       grows = extends_trans _ _ _ c.loop-fault.invariant.grows c.turn.ensures.grows;
+      numbered = c.turn.ensures.numbered;
       within = c.in-Ok-Loaded.ensures.within;
       lower = let before = c.loop-fault.invariant.lower in omega arith;
     }
@@ -32,6 +33,7 @@ loop-fault-preserved g c =
     record {
       onward = onward_ended _ _ (next (g.C.Codes.cats c.args.codes.now) c.args.end (items_at c.turn.new.names c.turn.new.self.items) c.turn.new.self.place) _ c.loop-fault.invariant.onward turns;
       grows = extends_trans _ _ _ c.loop-fault.invariant.grows c.turn.ensures.grows;
+      numbered = c.turn.ensures.numbered;
       within = c.in-Ok-Ended.ensures.within;
       lower = let before = c.loop-fault.invariant.lower in omega arith;
     }

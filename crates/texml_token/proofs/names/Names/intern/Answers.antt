@@ -1,40 +1,30 @@
-use Rattle.std.proofs.Common.{rules, ◌≡◌, ◌∙◌, sym, ap, subst, [], ◌∷◌, ◌++◌, None, Some, length, suc}
-use Rattle.std.specs.List.{All, position}
-use Rattle.std.specs.Char.{IsScalar}
-use Rattle.std.proofs.lemmas.List.Elements.{All-push}
-use Rattle.texml_token.specs.Token.{text_eq}
-use Rattle.texml_token.specs.Numbers.{Numbered, TextsAreScalar, number_of, with_text}
-use Rattle.texml_token.proofs.Table.{text_found, with_found, with_missing, number_missing, numbered_missing}
+use Rattle.std.proofs.Common.{◌≡◌, ◌∙◌, sym, ap, subst, arith, length, ℕ}
+use Rattle.texml_token.specs.Numbers.{Table, Numbered, TextsAreScalar, number_of, with_text, text_at, Extends}
+use Rattle.texml_token.proofs.Table.{named_with, text_with, scalars_with, numbered_with, grows_by}
 use Rattle.texml_token.proofs.names.Names.intern.Goals as goal
 
-found : (c : goal.In-Some) → position (text_eq c.args.text.now) c.args.self.now ≡ Some c.in-Some.at
-found c = search rules
-
-missing : (c : goal.After-len) → position (text_eq c.args.text.now) c.self.inside.texts.items ≡ None
-missing c = search rules
-
-pushed : (c : goal.After-len) → c.push.new.self.items ≡ c.self.inside.texts.items ++ c.args.text.now ∷ []
-pushed c = search rules
-
-pub returns-in-Some-clause-text : goal.returns-in-Some-clause-text
-returns-in-Some-clause-text c = text_found c.args.self.now c.args.text.now c.in-Some.at (found c)
-
-pub returns-in-Some-clause-is : goal.returns-in-Some-clause-is
-returns-in-Some-clause-is c = with_found c.args.self.now c.args.text.now c.in-Some.at (found c)
-
-pub invariant_of-self-2 : goal.invariant_of-self-2
-invariant_of-self-2 c =
-    let both : Numbered (c.self.inside.texts.items ++ c.args.text.now ∷ []) × TextsAreScalar (c.self.inside.texts.items ++ c.args.text.now ∷ []) =
-    (numbered_missing _ _ (missing c) c.self.invariant.0, All-push (All IsScalar) _ _ c.self.invariant.1 c.requires) in
-    subst (λ texts. Numbered texts × TextsAreScalar texts) (sym (pushed c)) both
-
 pub returns-clause-number : goal.returns-clause-number
-returns-clause-number c =
-    let one_more : c.len.result ≡ suc (length c.self.inside.texts.items) = search rules in
-    one_more ∙ (number_missing _ _ (missing c) ∙ ap (λ texts. number_of texts c.args.text.now) (sym (pushed c)))
+returns-clause-number c = c.in_ok-number.ensures.number ∙ sym (named_with c.self.inside.texts.keys c.args.text.now).0 ∙ ap (λ texts. number_of texts c.args.text.now) (sym c.in_ok-number.ensures.texts)
 
-pub returns-clause-is : goal.returns-clause-is
-returns-clause-is c = pushed c ∙ (with_missing _ _ (missing c) ∙ ap (λ texts. with_text texts c.args.text.now) c.self.view_is)
+pub returns-clause-within : goal.returns-clause-within
+returns-clause-within c =
+    let n = named_with c.self.inside.texts.keys c.args.text.now in
+    let at : c.in_ok-number.field-0 ≡ number_of c.self.inside.texts.keys c.args.text.now = c.in_ok-number.ensures.number in
+    let long : length c.number.new.texts.keys ≡ length (with_text c.self.inside.texts.keys c.args.text.now) = ap (λ (t : Table). length t) c.in_ok-number.ensures.texts in
+    (omega (arith, at), omega (arith, at, n.1, long))
+
+pub returns-clause-text : goal.returns-clause-text
+returns-clause-text c =
+    ap (λ (n : ℕ). text_at c.number.new.texts.keys n) c.in_ok-number.ensures.number ∙ ap (λ (t : Table). text_at t (number_of c.self.inside.texts.keys c.args.text.now)) c.in_ok-number.ensures.texts ∙ text_with c.self.inside.texts.keys c.args.text.now
+
+pub returns-clause-grows : goal.returns-clause-grows
+returns-clause-grows c = subst (λ (t : Table). Extends t c.number.new.texts.keys) c.self.view_is (subst (Extends c.self.inside.texts.keys) (sym c.in_ok-number.ensures.texts) (grows_by c.self.inside.texts.keys c.args.text.now))
 
 pub returns-clause-numbered : goal.returns-clause-numbered
-returns-clause-numbered c = subst Numbered (sym (pushed c)) (numbered_missing _ _ (missing c) c.self.invariant.0)
+returns-clause-numbered c = subst Numbered (sym c.in_ok-number.ensures.texts) (numbered_with c.self.inside.texts.keys c.args.text.now c.self.invariant.0)
+
+pub invariant_of-self-2 : goal.invariant_of-self-2
+invariant_of-self-2 c = (
+  subst Numbered (sym c.in_ok-number.ensures.texts) (numbered_with c.self.inside.texts.keys c.args.text.now c.self.invariant.0),
+  subst TextsAreScalar (sym c.in_ok-number.ensures.texts) (scalars_with c.self.inside.texts.keys c.args.text.now c.requires c.self.invariant.1),
+)

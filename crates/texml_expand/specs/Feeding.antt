@@ -1,0 +1,76 @@
+-- Only contracts of private functions need these: what the code decides by the tokens that it is fed, one after the other.
+use Rattle.std.specs.Prelude.{◌≡◌, ◌<◌, ◌-◌, ◌+◌, ℕ, List, [], ◌∷◌, length, take, if◌then◌else◌, Result, Ok, Err}
+use Rattle.std.specs.List.{count_by}
+use Rattle.texml_token.specs.Token.{Token, has_category}
+use Rattle.texml_token.specs.declared.category.TheConstants.{BEGIN_GROUP, END_GROUP}
+use Rattle.texml_token.specs.Numbers.{Table, Numbered, Extends, tokens_at, TokensWithin}
+use Rattle.texml_token.specs.declared.fault.Fault.{Fault}
+use Rattle.texml_token.specs.declared.tokens.Token.{Token as TokenCode}
+use Rattle.texml_expand.specs.declared.stop.Stop.{Stop}
+use Rattle.texml_expand.specs.declared.stop.Stop.TheVariants as stop
+use Rattle.texml_expand.specs.declared.feeding.Verdict.{Verdict}
+use Rattle.texml_expand.specs.declared.feeding.Verdict.TheVariants.{TooShort, Yields, Refuses}
+use Rattle.texml_expand.specs.State.{State, End, Tex, Limit, nothing, Done, Ended, fault_at}
+use Rattle.texml_expand.specs.Held.{Held, state_of}
+use Rattle.texml_expand.specs.Least.{inner_token, next_tokens}
+use Rattle.texml_expand.specs.Absorb.{closes}
+
+-- what lists of tokens decide, by the texts of their names
+abbrev pub Judge : Type 0 → Type 0
+Judge V = Table → List TokenCode → Verdict V
+
+-- a token was fed: the list of it alone decides this, and where that is too short more tokens decide what they did behind it
+pub record IsFed {V : Type 0} (old : Judge V) (token : TokenCode) (verdict : Verdict V) (new : Judge V) (texts : Table) : Type 0 where
+  pub is : old texts (token ∷ []) ≡ verdict
+  pub on : verdict ≡ TooShort → (more : List TokenCode) → new texts more ≡ old texts (token ∷ more)
+
+module _ {V : Type 0} (judge : Judge V) (old : State) where
+  -- the next j tokens are these, and don't decide
+  pub record Short (texts : Table) (j : ℕ) (list : List TokenCode) : Type 0 where
+    pub now : State
+    pub tokens : next_tokens j old ≡ Done (tokens_at texts list) now nothing
+    pub is : judge texts list ≡ TooShort
+
+  -- the next tokens are these, and no first part of them decides
+  pub record Seen (texts : Table) (list : List TokenCode) (now : State) : Type 0 where
+    pub numbered : Numbered texts
+    pub within : TokensWithin (length texts) list
+    pub tokens : next_tokens (length list) old ≡ Done (tokens_at texts list) now nothing
+    pub before : (j : ℕ) → j < length list → Short texts j (take j list)
+
+  -- they decide
+  pub record Settled (texts : Table) (now : State) (verdict : Verdict V) : Type 0 where
+    pub list : List TokenCode
+    pub seen : Seen texts list now
+    pub is : judge texts list ≡ verdict
+
+  -- they don't decide, and the next one can't be taken
+  pub record CutShort (end : End) : Type 0 where
+    pub texts : Table
+    pub list : List TokenCode
+    pub now : State
+    pub seen : Seen texts list now
+    pub is : judge texts list ≡ TooShort
+    pub cut : inner_token now ≡ Ended end nothing
+
+  -- why feeding ends with a fault
+  pub data EndsWith (fault : Fault) : Type 0 where
+    Refused : (texts : Table) (now : State) (code : ℕ) → Settled texts now (Refuses code) → fault ≡ fault_at code [] now.place → EndsWith fault
+    Cut : CutShort (Tex fault) → EndsWith fault
+
+  -- what feeding answers
+  abbrev pub Feeds : Result V Stop → Held → Type 0
+  Feeds (Ok v) new = Settled new.names (state_of new) (Yields v)
+  Feeds (Err (stop.Tex f)) new = EndsWith f
+  Feeds (Err (stop.Limit n)) new = CutShort (Limit n)
+  Feeds (Err stop.ReadFailed) new = ⊥
+  Feeds (Err stop.TellFailed) new = ⊥
+  Feeds (Err stop.NoMemory) new = Unit {0}
+
+-- the tokens before the last one, where that closes the group that has begun
+abbrev pub judge_group : Judge (List TokenCode)
+judge_group texts list = if closes (tokens_at texts list) then Yields (take (length list - 1) list) else TooShort
+
+-- so many groups have begun in these tokens and not ended
+pub record IsOpen (list : List Token) (inner : ℕ) : Type 0 where
+  pub balance : count_by (has_category BEGIN_GROUP) list ≡ count_by (has_category END_GROUP) list + inner
