@@ -1,20 +1,26 @@
 -- Each command has one answer, and leaves no more to be read.
-use Rattle.std.proofs.Common.{◌≡◌, ◌+◌, ℕ, Bool, true, false, if◌then◌else◌, List, [], ◌∷◌, length, length-append, map, ◌++◌, ◌≤◌, Option, Some, None, Ok, Err, refl, sym, ap, ◌∙◌, arith, ◌&&◌, ◌==◌}
+use Rattle.std.proofs.Common.{◌≡◌, ◌+◌, ℕ, zero, suc, Bool, true, false, if◌then◌else◌, List, [], ◌∷◌, length, length-append, map, ◌++◌, ◌≤◌, Option, Some, None, Ok, Err, refl, sym, ap, ◌∙◌, arith, ◌&&◌, ◌==◌}
 use Rattle.std.specs.List.{list_any, sum_by}
 use Rattle.std.specs.Option.{option_to_list}
 use Rattle.std.proofs.lemmas.List.Sums.{sum_by-cons, sum_by-append}
 use Rattle.texml_token.specs.Token.{Token, Char, Active, Named, Fixed, has_category}
 use Rattle.texml_token.specs.declared.category.TheConstants.{BEGIN_GROUP, END_GROUP, PARAMETER}
 use Rattle.texml_token.specs.declared.fault_code.TheConstants.{FILE_ENDED, BAD_PARAMETER, MISSING_BRACE, BAD_PREFIX}
-use Rattle.texml_scope.specs.Groups.{Open, WrongGroup, put_below, begin_group, keep_in, end_in}
-use Rattle.texml_scope.specs.Texts.{Key, Kind, Value, Meaning, kind_eq}
+use Rattle.texml_scope.specs.declared.values.FaultOf.TheVariants.{WrongGroup}
+use Rattle.texml_scope.specs.Groups.{Open, put_below, begin_group, keep_in, end_in}
+use Rattle.texml_scope.specs.Texts.{Key, Kind, Value, Meaning, key_eq, kind_eq}
 use Rattle.texml_scope.specs.declared.values.MeaningOf.TheVariants.{Macro}
 use Rattle.texml_scope.specs.declared.values.ValueOf.TheVariants.{Means}
 use Rattle.texml_scope.specs.declared.values.KindOf.TheVariants.{Begin}
 use Rattle.texml_expand.specs.Next.{Taken, Given, Got, AtEnd, Invalid, next}
 use Rattle.texml_expand.specs.Codes.{cats_of, end_of}
-use Rattle.texml_expand.specs.Absorb.{absorb}
-use Rattle.texml_expand.specs.State.{State, room, Reading, chain, IsDecided, give, fail, change}
+use Rattle.texml_expand.specs.Absorb.{absorbed, absorb}
+use Rattle.texml_expand.specs.Least.{inside_if, inside, inner_token, next_tokens, least, is_enough, decided}
+use Rattle.texml_expand.specs.declared.feeding.Verdict.{Verdict}
+use Rattle.texml_expand.specs.declared.feeding.Verdict.TheVariants.{TooShort, Yields, Refuses}
+use Rattle.texml_expand.proofs.Least.{Takes, take_takes, by_least_decided}
+use Rattle.texml_expand.proofs.Groups.{absorb_leads}
+use Rattle.texml_expand.specs.State.{State, nothing, room, Done, Reading, chain, IsDecided, give, fail, change}
 use Rattle.texml_expand.specs.Expand.{take_given, take, back, put, level}
 use Rattle.texml_expand.specs.Contract.{Lower}
 use Rattle.texml_expand.specs.Rest.{Tok}
@@ -34,9 +40,9 @@ use Rattle.texml_assign.specs.declared.execute.Executed.TheVariants.{Yes, NotMin
 use Rattle.texml_assign.specs.Table.{executable_of, is_assignment, no_prefixes, with_prefix, may_follow}
 use Rattle.texml_assign.specs.Loop.{ByDepth, Next, On, Over, Loop, loops}
 use Rattle.texml_assign.specs.Meaning.{means}
-use Rattle.texml_assign.specs.Operands.{needed, next_token, token_of, token_or_end, key_of, next_key, is_space, space_turn, behind_spaces, is_equals, behind_space, behind_sign, behind_equals, meaning_now, meant}
+use Rattle.texml_assign.specs.Operands.{needed, next_token, token_of, token_or_end, key_of, next_key, is_space, space_turn, spaces_loop, behind_spaces, is_equals, behind_space, behind_sign, behind_equals, meaning_now, meant}
 use Rattle.texml_assign.specs.Sets.{assign, begin_kind, ended, end_kind, read_after, keep, keep_token, put_kept_of, put_kept}
-use Rattle.texml_assign.specs.Execute.{open_brace, plain_body, macro_of, defined, assigned, with_token, row, behind, perform, followed, prefix_word, prefix_turn, prefixed, execute_by, execute}
+use Rattle.texml_assign.specs.Execute.{open_brace, plain_body, macro_of, defined, assigned, with_token, row, behind, perform, followed, prefix_word, prefix_turn, prefix_loop, prefixed, execute_prefixed, execute_by, execute}
 use Rattle.texml_assign.proofs.Readings.{IsUnlimited, unlimited_chain, Lawful, Plain, lawful_plain, lawful_by, lawful_then, plain_by, plain_give, plain_fail, plain_change, plain_if, plain_then}
 use Rattle.texml_assign.proofs.Looping.{LawfulLoop, lawful_loop}
 
@@ -54,12 +60,15 @@ given_unlimited s (Invalid c place) = tt
 plain_take : Plain take
 plain_take = record { decided = take_decided; unlimited = λ s. given_unlimited s (next (cats_of s.world) (end_of s.world) s.rest s.place); falls = λ s. leads_weaker (λ o t. Lower (count o) s t) (λ o t. Lower 0 s t) (take s) (λ o t g. lower_then (count o) 0 0 s t t g (lower_none t) (omega arith)) (take_leads s) }
 
-plain_needed : (o : Option Taken) → Plain (needed o)
+pub plain_token_or_end : Plain token_or_end
+plain_token_or_end = plain_then take (λ o. give (token_of o)) plain_take (λ o. plain_give (token_of o))
+
+pub plain_needed : (o : Option Token) → Plain (needed o)
 plain_needed None = plain_fail _ _ _
-plain_needed (Some t) = plain_give t.token
+plain_needed (Some t) = plain_give t
 
 pub plain_next : Plain next_token
-plain_next = plain_then take needed plain_take plain_needed
+plain_next = plain_then token_or_end needed plain_token_or_end plain_needed
 
 pub plain_key_of : (t : Token) → Plain (key_of t)
 plain_key_of (Active c) = plain_give _
@@ -69,12 +78,13 @@ plain_key_of t = plain_fail _ _ _
 pub plain_next_key : Plain next_key
 plain_next_key = plain_then next_token key_of plain_next plain_key_of
 
-pub plain_token_or_end : Plain token_or_end
-plain_token_or_end = plain_then take (λ o. give (token_of o)) plain_take (λ o. plain_give (token_of o))
-
 count_of : (o : Option Taken) → count (token_of o) ≡ count o
 count_of None = refl
 count_of (Some t) = refl
+
+-- each token that is taken leaves less to be read, and no expansion begins
+pub token_takes : (s : State) → Leads (λ o t. Takes (count o) s t) (token_or_end s)
+token_takes s = leads_chain (λ o t. Takes (count o) s t) (λ o t. Takes (count o) s t) (take s) (λ o. give (token_of o)) (take_takes s) (λ o t low. rw (count_of o) low)
 
 token_lowers : (s : State) → Leads (λ o t. Lower (count o) s t) (token_or_end s)
 token_lowers s = leads_chain (λ o t. Lower (count o) s t) (λ o t. Lower (count o) s t) (take s) (λ o. give (token_of o)) (take_leads s) (λ o t low. rw (count_of o) low)
@@ -84,7 +94,10 @@ token_lowers s = leads_chain (λ o t. Lower (count o) s t) (λ o t. Lower (count
 pub plain_space_turn : (seen : Unit {0}) (t : Token) → Plain (λ s. space_turn seen t 0 s)
 plain_space_turn seen t = plain_by (λ s. means s.world t) (λ m. give (if is_space m then On tt else Over t)) (λ m. plain_give _)
 
-pub spaces_laws : LawfulLoop (record { source = λ n. token_or_end; turn = space_turn; end = λ seen. fail FILE_ENDED [] })
+pub space_is : (b : Bool) (t : Token) (s : State) → is_space (means s.world t) ≡ b → space_turn tt t 0 s ≡ Done (if b then On tt else Over t) s nothing
+space_is b t s e = ap (λ x. Done (if x then On tt else Over t) s nothing) e
+
+pub spaces_laws : LawfulLoop spaces_loop
 spaces_laws = record {
   source = lawful_plain token_or_end plain_token_or_end;
   lowers = λ n s. token_lowers s;
@@ -93,7 +106,7 @@ spaces_laws = record {
 }
 
 pub lawful_spaces : Lawful behind_spaces
-lawful_spaces = lawful_loop _ spaces_laws tt
+lawful_spaces = lawful_loop spaces_loop spaces_laws tt
 
 pub plain_behind_space : (t : Token) → Plain (behind_space t)
 plain_behind_space t = plain_by (λ s. means s.world t) (λ m. if is_space m then next_token else give t) (λ m. plain_if (is_space m) next_token (give t) plain_next (plain_give t))
@@ -124,8 +137,36 @@ plain_open t =
     plain_if (has_category BEGIN_GROUP t) (give tt) (if has_category END_GROUP t then fail MISSING_BRACE [] else fail BAD_PARAMETER []) (plain_give tt)
     (plain_if (has_category END_GROUP t) (fail MISSING_BRACE []) (fail BAD_PARAMETER []) (plain_fail _ _ _) (plain_fail _ _ _))
 
+inside_if_unlimited : (b : Bool) (t : Token) (s : State) → IsUnlimited (inside_if b t s)
+inside_if_unlimited true t s = tt
+inside_if_unlimited false t s = tt
+
+inside_unlimited : (o : Option Taken) (s : State) → IsUnlimited (inside o s)
+inside_unlimited None s = tt
+inside_unlimited (Some t) s = inside_if_unlimited t.crossed t.token s
+
+tokens_unlimited : (k : ℕ) (s : State) → IsUnlimited (next_tokens k s)
+tokens_unlimited zero s = tt
+tokens_unlimited (suc k) s =
+    unlimited_chain (next_tokens k s) _ (tokens_unlimited k s) (λ list t.
+    unlimited_chain (inner_token t) (λ x. give (list ++ x ∷ [])) (unlimited_chain (take t) inside (plain_take.unlimited t) inside_unlimited) (λ x u. tt))
+
+verdict_unlimited : (v : Verdict (List Token)) (s : State) → IsUnlimited (decided v s)
+verdict_unlimited TooShort s = tt
+verdict_unlimited (Yields list) s = tt
+verdict_unlimited (Refuses code) s = tt
+
+absorb_unlimited : (s : State) → IsUnlimited (absorb s)
+absorb_unlimited s =
+    let k = least (room s + 1) (λ k. is_enough absorbed (next_tokens k s)) in
+    unlimited_chain (next_tokens k s) (λ list. decided (absorbed list)) (tokens_unlimited k s) (λ list t. verdict_unlimited (absorbed list) t)
+
 pub plain_absorb : Plain absorb
-plain_absorb = record { decided = absorb_decided; falls = absorb_leads; unlimited = absorb_unlimited }
+plain_absorb = record {
+  decided = by_least_decided absorbed;
+  falls = λ s. leads_weaker (λ list t. Lower (length list + 1) s t) (λ list t. Lower 0 s t) (absorb s) (λ list t g. lower_then (length list + 1) 0 0 s t t g (lower_none t) (omega arith)) (absorb_leads s);
+  unlimited = absorb_unlimited;
+}
 
 pub plain_body_law : (body : List Token) → Plain (plain_body body)
 plain_body_law body = plain_if (list_any (has_category PARAMETER) body) (fail BAD_PARAMETER []) (give tt) (plain_fail _ _ _) (plain_give tt)
@@ -185,12 +226,12 @@ keep_room t (g ∷ gs) =
     let kept : Open Key Value Token Kind = record { kind = g.kind; after = g.after ++ t ∷ []; below = g.below } in
     omega (arith, sum_by-cons (λ (o : Open Key Value Token Kind). length o.after) kept gs, sum_by-cons (λ (o : Open Key Value Token Kind). length o.after) g gs, length-append g.after (t ∷ []))
 
-needed_one : (o : Option Taken) (s t : State) → Lower (count o) s t → Leads (λ x u. Lower 1 s u) (needed o t)
+needed_one : (o : Option Token) (s t : State) → Lower (count o) s t → Leads (λ x u. Lower 1 s u) (needed o t)
 needed_one None s t low = tt
 needed_one (Some x) s t low = low
 
 next_lowers : (s : State) → Leads (λ t u. Lower 1 s u) (next_token s)
-next_lowers s = leads_chain (λ o t. Lower (count o) s t) (λ t u. Lower 1 s u) (take s) needed (take_leads s) (λ o t low. needed_one o s t low)
+next_lowers s = leads_chain (λ o t. Lower (count o) s t) (λ t u. Lower 1 s u) (token_or_end s) needed (token_lowers s) (λ o t low. needed_one o s t low)
 
 kept_lower : (s t u : State) → Lower 1 s t → u.limit ≡ t.limit → u.nesting ≡ t.nesting → u.begun ≡ t.begun → room u ≤ room t + 1 → Lower 0 s u
 kept_lower s t u low limit nesting begun more = record {
@@ -296,7 +337,7 @@ lawful_fetch = record {
   falls = λ n s. leads_weaker (λ o t. Lower (count o) s t) (λ o t. Lower 0 s t) ((level n).fetch s) (λ o t g. lower_then (count o) 0 0 s t t g (lower_none t) (omega arith)) (level_leads n s);
 }
 
-pub prefix_laws : LawfulLoop (record { source = λ n. (level n).fetch; turn = prefix_turn; end = λ p. fail FILE_ENDED [] })
+pub prefix_laws : LawfulLoop prefix_loop
 prefix_laws = record {
   source = lawful_fetch;
   lowers = level_leads;
@@ -305,22 +346,21 @@ prefix_laws = record {
 }
 
 pub lawful_prefixed : (p : Prefixes) → Lawful (prefixed p)
-lawful_prefixed p = lawful_loop _ prefix_laws p
+lawful_prefixed p = lawful_loop prefix_loop prefix_laws p
 
 -- Tokens
 
--- a command that is done with its prefixes
-abbrev pub done_with : Prefixes → CommandWord → ByDepth Executed
-done_with p c n s = chain (perform p c n s) (λ _. give Yes)
+pub lawful_execute_prefixed : (x : PrefixWord) → Lawful (execute_prefixed x)
+lawful_execute_prefixed x =
+    lawful_then (prefixed (with_prefix no_prefixes x)) (λ found. perform found.0 found.1) (lawful_prefixed (with_prefix no_prefixes x)) (λ found. lawful_perform found.0 found.1)
 
-pub lawful_done : (p : Prefixes) (c : CommandWord) → Lawful (done_with p c)
-lawful_done p c = lawful_then (perform p c) (λ _ n. give Yes) (lawful_perform p c) (λ _. lawful_plain (give Yes) (plain_give Yes))
+pub lawful_yes : Lawful (λ n. give Yes)
+lawful_yes = lawful_plain (give Yes) (plain_give Yes)
 
 pub lawful_execute_by : (x : Option Executable) → Lawful (execute_by x)
 lawful_execute_by None = lawful_plain (give NotMine) (plain_give NotMine)
-lawful_execute_by (Some (Command c)) = lawful_done no_prefixes c
-lawful_execute_by (Some (Prefix x)) =
-    lawful_then (prefixed (with_prefix no_prefixes x)) (λ pc. done_with pc.0 pc.1) (lawful_prefixed (with_prefix no_prefixes x)) (λ pc. lawful_done pc.0 pc.1)
+lawful_execute_by (Some (Command c)) = lawful_then (perform no_prefixes c) (λ _ n. give Yes) (lawful_perform no_prefixes c) (λ _. lawful_yes)
+lawful_execute_by (Some (Prefix x)) = lawful_then (execute_prefixed x) (λ _ n. give Yes) (lawful_execute_prefixed x) (λ _. lawful_yes)
 
 pub lawful_execute : (t : Token) → Lawful (execute t)
 lawful_execute t = lawful_by (λ s. executable_of (means s.world t)) execute_by lawful_execute_by

@@ -3,3 +3,4 @@ pub mod Looping
 pub mod Doing
 pub mod Commands
 pub mod Worlds
+pub mod Searching

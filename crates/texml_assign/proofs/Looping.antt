@@ -5,12 +5,12 @@ use Rattle.texml_watch.specs.declared.record.Record.{Record}
 use Rattle.texml_expand.specs.declared.stop.Stop.{Stop}
 use Rattle.texml_expand.specs.declared.stop.Stop.TheVariants as stop
 use Rattle.texml_expand.specs.State.{State, room, Gains, Answer, Done, Ended, Unfinished, Reading, chain, IsDecided, give}
-use Rattle.texml_expand.specs.Contract.{Lower, Quiet}
+use Rattle.texml_expand.specs.Contract.{Lower}
 use Rattle.texml_expand.specs.Hearing.{Meets, Follows}
 use Rattle.texml_expand.proofs.Order.{IsWithin, Grows, grows_refl, chain_grows, Mono}
 use Rattle.texml_expand.proofs.Falls.{Leads, leads_at, lower_none, lower_then, count}
 use Rattle.texml_assign.specs.Loop.{ByDepth, Next, On, Over, Loop, looped, turned, loops}
-use Rattle.texml_assign.proofs.Readings.{Settles, settles_chain, Lawful, Plain, chained, lawful_plain, plain_give, falls_then, follows_then, follows_stop, follows_quiet, follows_out}
+use Rattle.texml_assign.proofs.Readings.{Settles, settles_chain, Lawful, sure, Plain, chained, lawful_plain, plain_give, falls_then, follows_then, follows_stop, follows_silent, follows_out}
 
 -- the parts of a loop are lawful, and the tokens that come lower what is left
 pub record LawfulLoop {S A : Type 0} (loop : Loop S A) : Type 0 where
@@ -143,35 +143,35 @@ module _ {S A : Type 0} (loop : Loop S A) (laws : LawfulLoop loop) where
 
     by_source : (seen : S) (o : Option Token) (r : Result A Stop) (now mid new : State) (b c d : T) → Follows hear part (λ n. loop.source n now) (Ok o) mid b c → Follows hear part (λ n. token_at_depth seen o n mid) r new c d
         → Follows hear part (λ n. loops loop seen n now) r new b d
-    by_source seen o r now mid new b c d g k = by_step seen r now new b d (follows_then hear part loop.source (token_at_depth seen) laws.source (lawful_token seen) o r now mid new b c d g k)
+    by_source seen o r now mid new b c d g k = by_step seen r now new b d (follows_then hear part loop.source (token_at_depth seen) laws.source (λ o. sure (token_at_depth seen o) (lawful_token seen o)) o r now mid new b c d g k)
 
     -- no token can be had
     pub loop_stops : (e : Stop) (first seen : S) (old now new : State) (a b c : T) → IsWithin now → LoopOnward first old a seen now b → Follows hear part (λ n. loop.source n now) (Err e) new b c
         → Follows hear part (λ n. loops loop first n old) (Err e) new a c
     loop_stops e first seen old now new a b c w o g =
-        o.on (Err e) new c (by_step seen (Err e) now new b c (follows_stop hear part loop.source (token_at_depth seen) laws.source (lawful_token seen) e now new b c w g))
+        o.on (Err e) new c (by_step seen (Err e) now new b c (follows_stop hear part loop.source (token_at_depth seen) laws.source (λ o. sure (token_at_depth seen o) (lawful_token seen o)) e now new b c w g))
 
     -- the end of what is to be read
-    pub loop_ends : (r : Result A Stop) (first seen : S) (old now mid new : State) (a b c : T) → LoopOnward first old a seen now b → Follows hear part (λ n. loop.source n now) (Ok None) mid b c → Quiet (loop.end seen mid) r new
-        → Follows hear part (λ n. loops loop first n old) r new a c
-    loop_ends r first seen old now mid new a b c o g h = o.on r new c (by_source seen None r now mid new b c c g (follows_quiet hear part (loop.end seen) (laws.end seen) r mid new c h))
+    pub loop_ends : (r : Result A Stop) (first seen : S) (old now mid new : State) (a b c d : T) → LoopOnward first old a seen now b → Follows hear part (λ n. loop.source n now) (Ok None) mid b c
+        → Follows hear part (λ n. loop.end seen mid) r new c d → Follows hear part (λ n. loops loop first n old) r new a d
+    loop_ends r first seen old now mid new a b c d o g h = o.on r new d (by_source seen None r now mid new b c d g h)
 
     by_turn : (t : Token) (next : Next S A) (r : Result A Stop) (seen : S) (now mid far new : State) (b c d e : T) → Follows hear part (λ n. loop.source n now) (Ok (Some t)) mid b c → Follows hear part (λ n. loop.turn seen t n mid) (Ok next) far c d
         → Follows hear part (λ n. next_at_depth next n far) r new d e → Follows hear part (λ n. loops loop seen n now) r new b e
     by_turn t next r seen now mid far new b c d e g h k =
-        by_source seen (Some t) r now mid new b c e g (follows_then hear part (loop.turn seen t) next_at_depth (laws.turn seen t) lawful_next next r mid far new c d e h k)
+        by_source seen (Some t) r now mid new b c e g (follows_then hear part (loop.turn seen t) next_at_depth (laws.turn seen t) (λ x. sure (next_at_depth x) (lawful_next x)) next r mid far new c d e h k)
 
     -- a turn that stops
     pub turn_stops : (t : Token) (e : Stop) (first seen : S) (old now mid new : State) (a b c d : T) → IsWithin mid → LoopOnward first old a seen now b → Follows hear part (λ n. loop.source n now) (Ok (Some t)) mid b c
         → Follows hear part (λ n. loop.turn seen t n mid) (Err e) new c d → Follows hear part (λ n. loops loop first n old) (Err e) new a d
     turn_stops t e first seen old now mid new a b c d w o g h =
-        o.on (Err e) new d (by_source seen (Some t) (Err e) now mid new b c d g (follows_stop hear part (loop.turn seen t) next_at_depth (laws.turn seen t) lawful_next e mid new c d w h))
+        o.on (Err e) new d (by_source seen (Some t) (Err e) now mid new b c d g (follows_stop hear part (loop.turn seen t) next_at_depth (laws.turn seen t) (λ x. sure (next_at_depth x) (lawful_next x)) e mid new c d w h))
 
     -- a turn behind which it is over
     pub turn_over : (t : Token) (v : A) (first seen : S) (old now mid new : State) (a b c d : T) → LoopOnward first old a seen now b → Follows hear part (λ n. loop.source n now) (Ok (Some t)) mid b c
         → Follows hear part (λ n. loop.turn seen t n mid) (Ok (Over v)) new c d → Follows hear part (λ n. loops loop first n old) (Ok v) new a d
     turn_over t v first seen old now mid new a b c d o g h =
-        o.on (Ok v) new d (by_turn t (Over v) (Ok v) seen now mid new new b c d d g h (follows_quiet hear part (give v) (plain_give v) (Ok v) new new d refl))
+        o.on (Ok v) new d (by_turn t (Over v) (Ok v) seen now mid new new b c d d g h (follows_silent hear part (give v) (plain_give v).decided (Ok v) new new d refl))
 
     -- a turn behind which it goes on
     pub turn_onward : (t : Token) (first seen more : S) (old now mid new : State) (a b c d : T) → LoopOnward first old a seen now b → Follows hear part (λ n. loop.source n now) (Ok (Some t)) mid b c

@@ -4,11 +4,12 @@ use Rattle.texml_watch.specs.declared.record.Record.{Record}
 use Rattle.texml_expand.specs.declared.stop.Stop.{Stop}
 use Rattle.texml_expand.specs.declared.stop.Stop.TheVariants as stop
 use Rattle.texml_expand.specs.State.{State, Gains, Tex, Limit, Answer, Done, Ended, Unfinished, Reading, after, chain, IsDecided, give, fail, change}
-use Rattle.texml_expand.specs.Contract.{Lower, DecidesOn, Quiet}
+use Rattle.texml_expand.specs.Contract.{Lower, DecidesOn, Silent}
 use Rattle.texml_expand.specs.Hearing.{Meets, Follows}
 use Rattle.texml_expand.proofs.Order.{IsWithin, grows_refl, chain_grows, decided_after, Mono}
 use Rattle.texml_expand.proofs.Falls.{Leads, leads_chain, leads_at, leads_weaker, lower_none, lower_then}
 use Rattle.texml_expand.proofs.Settle.{any, chain_decided}
+use Rattle.texml_expand.proofs.Total.{agree}
 use Rattle.texml_expand.proofs.Meeting.{meets_then, meets_stop, meets_silent, part_untold}
 use Rattle.texml_assign.specs.Loop.{ByDepth}
 
@@ -26,6 +27,17 @@ pub record Lawful {A : Type 0} (r : ByDepth A) : Type 0 where
   pub mono : (s : State) → Mono (λ n. r n s)
   pub settles : (s : State) → IsWithin s → Settles (λ n. r n s)
   pub falls : (n : ℕ) (s : State) → Leads (λ v t. Lower 0 s t) (r n s)
+
+-- the same, where perhaps more is left to be read
+pub record Sure {A : Type 0} (r : ByDepth A) : Type 0 where
+  pub mono : (s : State) → Mono (λ n. r n s)
+  pub settles : (s : State) → IsWithin s → Settles (λ n. r n s)
+
+pub sure : {A : Type 0} (r : ByDepth A) → Lawful r → Sure r
+sure r l = record { mono = l.mono; settles = l.settles }
+
+pub sure_change : (f : State → State) → Sure (λ n. change f)
+sure_change f = record { mono = λ s. record { grows = λ n m le. grows_refl (change f s) }; settles = λ s w. record { at = 0; decided = tt } }
 
 -- readings without calls: no expansion begins in them, so that the limit doesn't end them
 
@@ -122,6 +134,10 @@ chain_decides a f ma mf (Unfinished gains) g h = absurd g.decided
 pub settles_of : {A : Type 0} (r : ℕ → Answer A) (x : Answer A) → DecidesOn r x → Settles r
 settles_of r x g = record { at = g.depth; decided = subst IsDecided (sym g.is) g.decided }
 
+-- and all depths that decide agree
+pub decides_one : {A : Type 0} (r : ℕ → Answer A) → Mono r → (x y : Answer A) → DecidesOn r x → DecidesOn r y → x ≡ y
+decides_one r mono x y g h = sym g.is ∙ agree r mono g.depth h.depth (subst IsDecided (sym g.is) g.decided) (subst IsDecided (sym h.is) h.decided) ∙ h.is
+
 pub decides_at : {A : Type 0} (r : ℕ → Answer A) (h : Settles r) → DecidesOn r (r h.at)
 decides_at r h = record { depth = h.at; is = refl; decided = h.decided }
 
@@ -145,7 +161,7 @@ lawful_then r f l k = record {
 -- what the code's calls follow
 module _ {T : Type 0} (hear part : T → Record → T → Type 0) where
   -- a call that answers, and what follows it
-  pub follows_then : {A B : Type 0} (r : ByDepth A) (f : A → ByDepth B) → Lawful r → ((v : A) → Lawful (f v)) → (v : A) (x : Result B Stop) (s mid new : State) (a b c : T) → Follows hear part (λ n. r n s) (Ok v) mid a b
+  pub follows_then : {A B : Type 0} (r : ByDepth A) (f : A → ByDepth B) → Lawful r → ((v : A) → Sure (f v)) → (v : A) (x : Result B Stop) (s mid new : State) (a b c : T) → Follows hear part (λ n. r n s) (Ok v) mid a b
       → Follows hear part (λ n. f v n mid) x new b c → Follows hear part (λ n. chained r f n s) x new a c
   follows_then r f l k v x s mid new a b c g h = record {
     answer = after g.meets.gains h.answer;
@@ -154,7 +170,7 @@ module _ {T : Type 0} (hear part : T → Record → T → Type 0) where
   }
 
   -- a call that stops
-  pub follows_stop : {A B : Type 0} (r : ByDepth A) (f : A → ByDepth B) → Lawful r → ((v : A) → Lawful (f v)) → (e : Stop) (s new : State) (a b : T) → IsWithin s → Follows hear part (λ n. r n s) (Err e) new a b
+  pub follows_stop : {A B : Type 0} (r : ByDepth A) (f : A → ByDepth B) → Lawful r → ((v : A) → Sure (f v)) → (e : Stop) (s new : State) (a b : T) → IsWithin s → Follows hear part (λ n. r n s) (Err e) new a b
       → Follows hear part (λ n. chained r f n s) (Err e) new a b
   follows_stop r f l k e s new a b w g =
       let low = λ (v : _) (t : State) (gains : Gains) (is : g.answer ≡ Done v t gains). leads_at (λ v t. Lower 0 s t) (r g.given.depth s) v t gains (g.given.is ∙ is) (l.falls g.given.depth s) in
@@ -162,12 +178,15 @@ module _ {T : Type 0} (hear part : T → Record → T → Type 0) where
       record { answer = chain g.answer (λ _ _. c.0); given = c.1; meets = meets_stop hear part g.answer (λ _ _. c.0) e new a b g.meets }
 
   -- a call that asks nothing outside
-  pub follows_quiet : {A : Type 0} (r : Reading A) → Plain r → (x : Result A Stop) (s new : State) (a : T) → Quiet (r s) x new → Follows hear part (λ n. r s) x new a a
-  follows_quiet r p x s new a h = record { answer = r s; given = record { depth = 0; is = refl; decided = p.decided s }; meets = meets_silent hear part (r s) x new a h }
+  pub follows_silent : {A : Type 0} (r : Reading A) → ((s : State) → IsDecided (r s)) → (x : Result A Stop) (s new : State) (a : T) → Silent (r s) x new → Follows hear part (λ n. r s) x new a a
+  follows_silent r decided x s new a h = record { answer = r s; given = record { depth = 0; is = refl; decided = decided s }; meets = meets_silent hear part (r s) x new a h }
 
-  -- less is left behind a call
+  -- what a reading leads to holds behind a call
+  pub follows_leads : {A : Type 0} (P : A → State → Type 0) (r : ByDepth A) (v : A) (s new : State) (a b : T) → ((n : ℕ) → Leads P (r n s)) → Follows hear part (λ n. r n s) (Ok v) new a b → P v new
+  follows_leads P r v s new a b l g = leads_at P (r g.given.depth s) v new g.meets.gains (g.given.is ∙ g.meets.is) (l g.given.depth)
+
   pub follows_lower : {A : Type 0} (r : ByDepth A) → Lawful r → (v : A) (s new : State) (a b : T) → Follows hear part (λ n. r n s) (Ok v) new a b → Lower 0 s new
-  follows_lower r l v s new a b g = leads_at (λ v t. Lower 0 s t) (r g.given.depth s) v new g.meets.gains (g.given.is ∙ g.meets.is) (l.falls g.given.depth s)
+  follows_lower r l v s new a b g = follows_leads (λ v t. Lower 0 s t) r v s new a b (λ n. l.falls n s) g
 
   -- want of memory may come before anything was told
   pub follows_out : {A : Type 0} (r : ByDepth A) → Lawful r → (s new : State) (a : T) → IsWithin s → Follows hear part (λ n. r n s) (Err stop.NoMemory) new a a

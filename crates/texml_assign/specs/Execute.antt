@@ -4,7 +4,8 @@ use Rattle.std.specs.List.{list_any}
 use Rattle.texml_token.specs.Token.{Token, has_category}
 use Rattle.texml_token.specs.declared.category.TheConstants.{BEGIN_GROUP, END_GROUP, PARAMETER}
 use Rattle.texml_token.specs.declared.fault_code.TheConstants.{FILE_ENDED, BAD_PARAMETER, BAD_PREFIX, MISSING_BRACE}
-use Rattle.texml_scope.specs.Texts.{MacroText, Meaning, plain_macro}
+use Rattle.texml_scope.specs.Texts.{Meaning, plain_macro}
+use Rattle.texml_scope.specs.Values.{Macro as MacroBy}
 use Rattle.texml_scope.specs.declared.values.MeaningOf.TheVariants.{Macro}
 use Rattle.texml_scope.specs.declared.values.KindOf.TheVariants.{Begin}
 use Rattle.texml_expand.specs.State.{State, Answer, Reading, ◌>>=◌, ◌>>◌, give, fail, change}
@@ -19,7 +20,7 @@ use Rattle.texml_assign.specs.declared.table.Prefixes.{Prefixes}
 use Rattle.texml_assign.specs.declared.execute.Executed.{Executed}
 use Rattle.texml_assign.specs.declared.execute.Executed.TheVariants.{Yes, NotMine}
 use Rattle.texml_assign.specs.Table.{executable_of, is_assignment, no_prefixes, with_prefix, may_follow}
-use Rattle.texml_assign.specs.Loop.{ByDepth, Next, On, Over, loops}
+use Rattle.texml_assign.specs.Loop.{ByDepth, Next, On, Over, Loop, loops}
 use Rattle.texml_assign.specs.Meaning.{means}
 use Rattle.texml_assign.specs.Operands.{next_token, next_key, is_space, meant}
 use Rattle.texml_assign.specs.Sets.{assign, begin_kind, end_kind, read_after, keep_token, put_kept}
@@ -37,7 +38,8 @@ open_brace t =
 abbrev pub plain_body : List Token → Reading (Unit {0})
 plain_body body = if list_any (has_category PARAMETER) body then fail BAD_PARAMETER [] else give tt
 
-abbrev pub macro_of : Bool → List Token → MacroText
+-- a macro without parameters, long or not
+abbrev pub macro_of : {T : Type 0} → Bool → List T → MacroBy T
 macro_of long body = record (plain_macro body) { long = long }
 
 -- the macro that a definition gives: a body in braces
@@ -101,11 +103,20 @@ prefix_word p (Some (Command c)) = followed p c
 abbrev pub prefix_turn : Prefixes → Token → ByDepth (Next Prefixes (Prefixes × CommandWord))
 prefix_turn p t n s = (if is_space (means s.world t) then give (On p) else prefix_word p (executable_of (means s.world t))) s
 
+abbrev pub prefix_loop : Loop Prefixes (Prefixes × CommandWord)
+prefix_loop = record { source = λ n. (level n).fetch; turn = prefix_turn; end = λ p. fail FILE_ENDED [] }
+
 -- the command behind prefixes, with all that stand before it. Tokens are expanded as they are looked at
 abbrev pub prefixed : Prefixes → ByDepth (Prefixes × CommandWord)
-prefixed = loops (record { source = λ n. (level n).fetch; turn = prefix_turn; end = λ p. fail FILE_ENDED [] })
+prefixed = loops prefix_loop
 
 -- Tokens
+
+-- the command behind a prefix
+abbrev pub execute_prefixed : PrefixWord → ByDepth (Unit {0})
+execute_prefixed x n = do
+  found ← prefixed (with_prefix no_prefixes x) n
+  perform found.0 found.1 n
 
 abbrev pub execute_by : Option Executable → ByDepth Executed
 execute_by None n = give NotMine
@@ -113,8 +124,7 @@ execute_by (Some (Command c)) n = do
   perform no_prefixes c n
   give Yes
 execute_by (Some (Prefix x)) n = do
-  pc ← prefixed (with_prefix no_prefixes x) n
-  perform pc.0 pc.1 n
+  execute_prefixed x n
   give Yes
 
 -- what a token asks for by its meaning, where that is a prefix or a command

@@ -9,20 +9,10 @@ use Rattle.texml_scope.specs.declared.values.MeaningOf.TheVariants.{Char as Char
 use Rattle.texml_expand.specs.Next.{Taken}
 use Rattle.texml_expand.specs.State.{Reading, ◌>>=◌, give, fail}
 use Rattle.texml_expand.specs.Expand.{take}
-use Rattle.texml_assign.specs.Loop.{ByDepth, Next, On, Over, loops}
+use Rattle.texml_assign.specs.Loop.{ByDepth, Next, On, Over, Loop, loops}
 use Rattle.texml_assign.specs.Meaning.{means}
 
 -- Tokens
-
--- the next token. There must be one
-abbrev pub needed : Option Taken → Reading Token
-needed None = fail FILE_ENDED []
-needed (Some t) = give t.token
-
-abbrev pub next_token : Reading Token
-next_token = do
-  o ← take
-  needed o
 
 abbrev pub token_of : Option Taken → Option Token
 token_of None = None
@@ -33,6 +23,16 @@ abbrev pub token_or_end : Reading (Option Token)
 token_or_end = do
   o ← take
   give (token_of o)
+
+abbrev pub needed : Option Token → Reading Token
+needed None = fail FILE_ENDED []
+needed (Some t) = give t
+
+-- the next token. There must be one
+abbrev pub next_token : Reading Token
+next_token = do
+  o ← token_or_end
+  needed o
 
 -- what a definition may define: a name or an active character. The fixed \relax is no name
 abbrev pub key_of : Token → Reading Key
@@ -57,8 +57,11 @@ is_space m = false
 abbrev pub space_turn : Unit {0} → Token → ByDepth (Next (Unit {0}) Token)
 space_turn seen t n s = give (if is_space (means s.world t) then On tt else Over t) s
 
+abbrev pub spaces_loop : Loop (Unit {0}) Token
+spaces_loop = record { source = λ n. token_or_end; turn = space_turn; end = λ seen. fail FILE_ENDED [] }
+
 abbrev pub behind_spaces : ByDepth Token
-behind_spaces = loops (record { source = λ n. token_or_end; turn = space_turn; end = λ seen. fail FILE_ENDED [] }) tt
+behind_spaces = loops spaces_loop tt
 
 -- the character = of category 12
 abbrev pub is_equals : Token → Bool

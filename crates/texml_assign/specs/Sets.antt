@@ -1,8 +1,9 @@
 -- What commands change.
-use Rattle.std.specs.Prelude.{Bool, false, if◌then◌else◌, List, [], Option, None, Some, Result, Ok, Err}
+use Rattle.std.specs.Prelude.{ℕ, Bool, false, if◌then◌else◌, List, [], Option, None, Some, Result, Ok, Err}
 use Rattle.texml_token.specs.Token.{Token}
 use Rattle.texml_token.specs.declared.fault_code.TheConstants.{GROUP_MISMATCH, NO_GROUP}
-use Rattle.texml_scope.specs.Groups.{EndFault, NoGroup, WrongGroup, set_local, set_global, begin_group, keep_after, end_group}
+use Rattle.texml_scope.specs.declared.values.FaultOf.TheVariants.{NoGroup, WrongGroup}
+use Rattle.texml_scope.specs.Groups.{EndFault, set_local, set_global, begin_group, keep_after, end_group}
 use Rattle.texml_scope.specs.Texts.{Key, Kind, Meaning, World, key_eq, kind_eq}
 use Rattle.texml_scope.specs.declared.values.ValueOf.TheVariants.{Means}
 use Rattle.texml_expand.specs.State.{State, Reading, fail, change}
@@ -16,11 +17,15 @@ assign global k m s = record s { world = if global then set_global key_eq k (Mea
 abbrev pub begin_kind : Kind → Reading (Unit {0})
 begin_kind kind = change (λ s. record s { world = begin_group kind s.world })
 
+-- the fault of a group that can't end: there is none, or it is of another kind
+abbrev pub end_code : {G : Type 0} → EndFault G → ℕ
+end_code NoGroup = NO_GROUP
+end_code (WrongGroup kind) = GROUP_MISMATCH
+
 -- the world behind the end of a group, whose after-tokens are read next; or why it can't end
 abbrev pub ended : World × Result (List Token) (EndFault Kind) → Reading (Unit {0})
 ended (w, Ok after) = change (λ s. put after (record s { world = w }))
-ended (w, Err NoGroup) = fail NO_GROUP []
-ended (w, Err (WrongGroup kind)) = fail GROUP_MISMATCH []
+ended (w, Err fault) = fail (end_code fault) []
 
 -- a group of this kind ends
 abbrev pub end_kind : Kind → Reading (Unit {0})

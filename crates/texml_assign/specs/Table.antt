@@ -2,7 +2,7 @@
 use Rattle.std.specs.Prelude.{ℕ, ◌==◌, ◌||◌, Bool, true, false, if◌then◌else◌, Option, None, Some}
 use Rattle.texml_scope.specs.Texts.{Meaning}
 use Rattle.texml_scope.specs.declared.values.MeaningOf.TheVariants.{Builtin}
-use Rattle.texml_assign.specs.declared.builtins.TheConstants.{RELAX, DEF, GDEF, LET, LONG, OUTER, GLOBAL, BEGINGROUP, ENDGROUP, AFTERGROUP, AFTERASSIGNMENT}
+use Rattle.texml_scope.specs.declared.builtins.TheConstants.{RELAX, DEF, GDEF, LET, LONG, OUTER, GLOBAL, BEGINGROUP, ENDGROUP, AFTERGROUP, AFTERASSIGNMENT}
 use Rattle.texml_assign.specs.declared.table.Prefix.{Prefix as PrefixWord}
 use Rattle.texml_assign.specs.declared.table.Prefix.TheVariants.{Long, Outer, Global}
 use Rattle.texml_assign.specs.declared.table.Command.{Command as CommandWord}

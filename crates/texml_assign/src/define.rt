@@ -5,9 +5,9 @@ ghost use Rattle.std.specs.List.{list_any};
 ghost use Rattle.texml_token.specs.declared.category.TheConstants.{PARAMETER};
 ghost use Rattle.texml_token.specs.Numbers.{Table, token_at, tokens_at, TokenWithin};
 ghost use Rattle.texml_scope.specs.Numbers.{meaning_at, MeaningWithin};
-ghost use Rattle.texml_expand.specs.Contract.{Quiet, outside, stop_after};
+ghost use Rattle.texml_expand.specs.Contract.{Silent, outside, stop_after};
 ghost use Rattle.texml_expand.specs.Hearing.{hears, hears_part};
-ghost use Rattle.texml_expand.specs.Held.{state_of, Sound, ok_at};
+ghost use Rattle.texml_expand.specs.Held.{state_of, Sound, Kept, ok_at};
 ghost use Rattle.texml_token.specs.Token.{has_category};
 ghost use Rattle.texml_assign.specs.Doing.{Does};
 ghost use Rattle.texml_assign.specs.Operands.{meant as spec_meant};
@@ -95,10 +95,11 @@ fn defined<F: Files, T: Teller>(
 // Refuses another token than the brace before a body.
 fn open_brace(engine: &mut Engine, token: Token) -> Result<(), Stop>
     requires running { engine.old.stop ≡ None }
+    requires sound { Sound engine.old }
     requires token { TokenWithin (length engine.old.names) token }
-    ensures opens { Quiet (spec_open_brace (token_at engine.old.names token) (state_of engine.old)) result (state_of engine.new) }
+    ensures opens { Silent (spec_open_brace (token_at engine.old.names token) (state_of engine.old)) result (state_of engine.new) }
     ensures kept { engine.new.stop ≡ stop_after result }
-    ensures same { OnOk result (engine.new ≡ engine.old) }
+    ensures keeps { OnOk result (Kept engine.old engine.new) }
     ensures is { engine.new ≡ record engine.old { stop = engine.new.stop } }
 {
     if token.has_category(category::BEGIN_GROUP) {

@@ -1,26 +1,27 @@
 //! Executing: prefixes, and a row for each command.
 
-ghost use Rattle.std.specs.Prelude.{◌≡◌, length, None, IfOk, IfSome, OnOk};
+ghost use Rattle.std.specs.Prelude.{◌≡◌, length, None, IfOk, OnOk};
 ghost use Rattle.texml_token.specs.Numbers.{Table, token_at, TokenWithin};
 ghost use Rattle.texml_scope.specs.Numbers.{meaning_at};
-ghost use Rattle.texml_expand.specs.Contract.{Stops, Lower, Quiet, outside, stop_after};
+ghost use Rattle.texml_expand.specs.State.{State};
+ghost use Rattle.texml_expand.specs.Contract.{Stops, Lower, outside};
 ghost use Rattle.texml_expand.specs.Hearing.{hears, hears_part, Follows};
-ghost use Rattle.texml_expand.specs.Held.{state_of, Sound, Kept, IsAtLimit, ok_at};
+ghost use Rattle.texml_expand.specs.Held.{state_of, Sound, Kept, IsAtLimit};
 ghost use Rattle.texml_assign.specs.Advance.{Advances};
 ghost use Rattle.texml_assign.specs.Doing.{Does};
 ghost use Rattle.texml_assign.specs.Table.{executable_of as spec_executable_of};
 ghost use Rattle.texml_assign.specs.Sets.{read_after as spec_read_after, keep_token};
-ghost use Rattle.texml_assign.specs.Execute.{with_token, row as spec_row, perform as spec_perform, prefix_turn, prefixed as spec_prefixed, executes};
-ghost use Rattle.texml_assign.specs.Behind.{next_of};
+ghost use Rattle.texml_assign.specs.Execute.{with_token, row as spec_row, perform as spec_perform, followed, prefix_word, prefix_turn, prefixed as spec_prefixed, execute_prefixed as spec_execute_prefixed, execute as spec_execute, executes};
+ghost use Rattle.texml_assign.specs.Behind.{turn_of};
 
 use crate::define::{define, let_to};
 use crate::meaning::meaning_of;
 use crate::operands::{is_space, next_token};
 use crate::sets::{begin_group, end_group, put_kept, read_after};
 use crate::table::{
-    Command, Executable, Prefixes, executable_at, is_assignment, may_follow, with_prefix,
+    Command, Executable, Prefix, Prefixes, executable_at, is_assignment, may_follow, with_prefix,
 };
-use std::alloc::Global;
+use std::alloc::{AllocError, Global};
 use texml_base::Files;
 use texml_expand::{Engine, Stop};
 use texml_scope::{GroupKind, Meaning};
@@ -34,11 +35,13 @@ pub enum Executed {
     NotMine,
 }
 
-// What stands behind prefixes: one of them with those before it, or what says nothing; or a command.
+// What stands behind prefixes: one more of them or what says nothing, and then all of them so far; a command; or what may not
+// stand there.
 #[derive(Clone, Copy, Debug, PartialEq, Eq)]
 enum Behind {
-    On(Prefixes),
-    Over(Command),
+    Prefixes(Prefixes),
+    Command(Command),
+    Misfit,
 }
 
 /// Does what a token asks for that was fetched, where it means a command that changes the world, or a prefix of one: it
@@ -71,7 +74,29 @@ pub fn execute<F: Files, T: Teller>(
     ensures same { IfOk result (λ done. done ≡ Executed.NotMine → (engine.new ≡ engine.old) × (tell.new ≡ tell.old)) }
     ensures files { files.new ≡ files.old }
 {
-    let meaning = meaning_of(engine, token)?;
+    execute_meaning(alloc, engine, files, tell, token)
+}
+
+// Does what a token asks for by its meaning.
+fn execute_meaning<F: Files, T: Teller>(
+    alloc: Global,
+    engine: &mut Engine,
+    files: &mut F,
+    tell: &mut T,
+    token: Token,
+) -> Result<Executed, Stop>
+    requires running { engine.old.stop ≡ None }
+    requires sound { Sound engine.old }
+    requires token { TokenWithin (length engine.old.names) token }
+    ensures does { Does (hears T.wanting T.heard) (hears_part T.wanting T.part) (spec_execute (token_at engine.old.names token)) result engine.old engine.new
+        (outside (F.faults files.old) (T.faults tell.old)) (outside (F.faults files.new) (T.faults tell.new)) tell.old tell.new }
+    ensures same { IfOk result (λ done. done ≡ Executed.NotMine → (engine.new ≡ engine.old) × (tell.new ≡ tell.old)) }
+    ensures files { files.new ≡ files.old }
+{
+    let meaning = match meaning_of(engine, token) {
+        Ok(meaning) => meaning,
+        Err(_) => return Err(engine.no_memory()),
+    };
     match executable_of(&meaning) {
         None => Ok(Executed::NotMine),
         Some(Executable::Command(command)) => {
@@ -79,12 +104,29 @@ pub fn execute<F: Files, T: Teller>(
             Ok(Executed::Yes)
         }
         Some(Executable::Prefix(prefix)) => {
-            let first = with_prefix(Prefixes::NONE, prefix);
-            let (prefixes, command) = prefixed(engine, files, tell, first)?;
-            perform(alloc, engine, files, tell, prefixes, command)?;
+            execute_prefixed(alloc, engine, files, tell, prefix)?;
             Ok(Executed::Yes)
         }
     }
+}
+
+// Does the command behind a prefix.
+fn execute_prefixed<F: Files, T: Teller>(
+    alloc: Global,
+    engine: &mut Engine,
+    files: &mut F,
+    tell: &mut T,
+    prefix: Prefix,
+) -> Result<(), Stop>
+    requires running { engine.old.stop ≡ None }
+    requires sound { Sound engine.old }
+    ensures does { Does (hears T.wanting T.heard) (hears_part T.wanting T.part) (spec_execute_prefixed prefix) result engine.old engine.new
+        (outside (F.faults files.old) (T.faults tell.old)) (outside (F.faults files.new) (T.faults tell.new)) tell.old tell.new }
+    ensures files { files.new ≡ files.old }
+{
+    let first = with_prefix(Prefixes::NONE, prefix);
+    let found = prefixed(engine, files, tell, first)?;
+    perform(alloc, engine, files, tell, found.0, found.1)
 }
 
 // What a meaning is, if it can be executed.
@@ -113,11 +155,10 @@ fn perform<F: Files, T: Teller>(
     ensures files { files.new ≡ files.old }
 {
     row(alloc, engine, files, tell, prefixes, command)?;
-    if is_assignment(command) {
-        put_kept(engine)
-    } else {
-        Ok(())
+    if !is_assignment(command) {
+        return Ok(());
     }
+    put_kept(engine)
 }
 
 // What a command does, with the prefixes before it.
@@ -137,13 +178,34 @@ fn row<F: Files, T: Teller>(
 {
     match command {
         Command::Relax => Ok(()),
-        Command::Def => define(alloc, engine, files, tell, prefixes.global, prefixes.long),
-        Command::Gdef => define(alloc, engine, files, tell, true, prefixes.long),
-        Command::Let => let_to(engine, files, tell, prefixes.global),
-        Command::BeginGroup => begin_group(engine, GroupKind::Begin),
-        Command::EndGroup => end_group(engine, GroupKind::Begin),
-        Command::AfterGroup => after_group(engine, files, tell),
-        Command::AfterAssignment => after_assignment(engine, files, tell),
+        Command::Def => {
+            define(alloc, engine, files, tell, prefixes.global, prefixes.long)?;
+            Ok(())
+        }
+        Command::Gdef => {
+            define(alloc, engine, files, tell, true, prefixes.long)?;
+            Ok(())
+        }
+        Command::Let => {
+            let_to(engine, files, tell, prefixes.global)?;
+            Ok(())
+        }
+        Command::BeginGroup => {
+            begin_group(engine, GroupKind::Begin)?;
+            Ok(())
+        }
+        Command::EndGroup => {
+            end_group(engine, GroupKind::Begin)?;
+            Ok(())
+        }
+        Command::AfterGroup => {
+            after_group(engine, files, tell)?;
+            Ok(())
+        }
+        Command::AfterAssignment => {
+            after_assignment(engine, files, tell)?;
+            Ok(())
+        }
     }
 }
 
@@ -201,9 +263,11 @@ fn prefixed<F: Files, T: Teller>(
                 Some(token) => token,
                 None => return Err(engine.bare_fault(fault_code::FILE_ENDED)),
             };
-            match behind_prefixes(engine, prefixes, token)? {
-                Behind::On(more) => prefixes = more,
-                Behind::Over(command) => return Ok((prefixes, command)),
+            match token_behind(engine, prefixes, token) {
+                Ok(Behind::Prefixes(more)) => prefixes = more,
+                Ok(Behind::Command(command)) => return Ok((prefixes, command)),
+                Ok(Behind::Misfit) => return Err(engine.bare_fault(fault_code::BAD_PREFIX)),
+                Err(_) => return Err(engine.no_memory()),
             }
             if engine.begun() != begun {
                 break;
@@ -212,26 +276,42 @@ fn prefixed<F: Files, T: Teller>(
     }
 }
 
-// What a token behind prefixes is: one more of them, a space or `\relax`, or a command that they may stand before.
-fn behind_prefixes(engine: &mut Engine, prefixes: Prefixes, token: Token) -> Result<Behind, Stop>
-    requires running { engine.old.stop ≡ None }
-    requires sound { Sound engine.old }
-    requires token { TokenWithin (length engine.old.names) token }
-    ensures turns { Quiet (prefix_turn prefixes (token_at engine.old.names token) 0 (state_of engine.old)) (ok_at (next_of prefixes) result) (state_of engine.new) }
-    ensures kept { engine.new.stop ≡ stop_after result }
-    ensures same { OnOk result (engine.new ≡ engine.old) }
-    ensures is { engine.new ≡ record engine.old { stop = engine.new.stop } }
+// What a token behind prefixes is.
+fn token_behind(
+    engine: &Engine,
+    prefixes: Prefixes,
+    token: Token,
+) -> Result<Behind, AllocError>
+    requires sound { Sound engine.now }
+    requires token { TokenWithin (length engine.now.names) token }
+    ensures { IfOk result (λ b. prefix_turn prefixes (token_at engine.now.names token) 0 (state_of engine.now) ≡ turn_of prefixes b (state_of engine.now)) }
 {
     let meaning = meaning_of(engine, token)?;
     if is_space(&meaning) {
-        return Ok(Behind::On(prefixes));
+        return Ok(Behind::Prefixes(prefixes));
     }
-    match executable_of(&meaning) {
-        Some(Executable::Prefix(prefix)) => Ok(Behind::On(with_prefix(prefixes, prefix))),
-        Some(Executable::Command(Command::Relax)) => Ok(Behind::On(prefixes)),
-        Some(Executable::Command(command)) if may_follow(prefixes, command) => {
-            Ok(Behind::Over(command))
-        }
-        _ => Err(engine.bare_fault(fault_code::BAD_PREFIX)),
+    Ok(word_behind(prefixes, executable_of(&meaning)))
+}
+
+// What a word behind prefixes is.
+fn word_behind(prefixes: Prefixes, word: Option<Executable>) -> Behind
+    ensures { (s : State) → prefix_word prefixes word s ≡ turn_of prefixes result s }
+{
+    match word {
+        Some(Executable::Prefix(prefix)) => Behind::Prefixes(with_prefix(prefixes, prefix)),
+        Some(Executable::Command(Command::Relax)) => Behind::Prefixes(prefixes),
+        Some(Executable::Command(command)) => command_behind(prefixes, command),
+        None => Behind::Misfit,
+    }
+}
+
+// What a command behind prefixes is.
+fn command_behind(prefixes: Prefixes, command: Command) -> Behind
+    ensures { (s : State) → followed prefixes command s ≡ turn_of prefixes result s }
+{
+    if may_follow(prefixes, command) {
+        Behind::Command(command)
+    } else {
+        Behind::Misfit
     }
 }

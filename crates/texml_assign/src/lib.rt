@@ -7,7 +7,6 @@
 //! It stands on texml_base, texml_token, texml_scope, texml_watch and texml_expand.
 #![tactic(auto)]
 
-mod builtins;
 mod define;
 mod execute;
 mod meaning;

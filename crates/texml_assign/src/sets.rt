@@ -9,10 +9,10 @@ ghost use Rattle.texml_scope.specs.Shown.{world_of};
 ghost use Rattle.texml_scope.specs.declared.values.ValueOf.TheVariants.{Means};
 ghost use Rattle.texml_scope.specs.Numbers.{key_at, meaning_at, kind_at, KeyWithin, KindWithin, MeaningWithin};
 ghost use Rattle.texml_expand.specs.State.{change};
-ghost use Rattle.texml_expand.specs.Contract.{Quiet, stop_after};
+ghost use Rattle.texml_expand.specs.Contract.{Silent, stop_after};
 ghost use Rattle.texml_expand.specs.Held.{state_of, Sound, Kept};
 ghost use Rattle.texml_assign.specs.Advance.{Advances};
-ghost use Rattle.texml_assign.specs.Sets.{assign as spec_assign, begin_kind, end_kind, read_after as spec_read_after, put_kept as spec_put_kept};
+ghost use Rattle.texml_assign.specs.Sets.{assign as spec_assign, begin_kind, end_kind, end_code as spec_end_code, read_after as spec_read_after, put_kept as spec_put_kept};
 ghost use Rattle.texml_assign.specs.Setting.{set_by};
 
 use std::alloc::AllocError;
@@ -33,7 +33,7 @@ pub fn assign(engine: &mut Engine, global: bool, key: Key, meaning: Meaning) -> 
     requires key { KeyWithin (length engine.old.names) key }
     requires meaning { MeaningWithin (length engine.old.names) meaning }
     requires may { MaySet key (Means meaning) }
-    ensures sets { Quiet (change (spec_assign global (key_at engine.old.names key) (meaning_at engine.old.names meaning)) (state_of engine.old)) result (state_of engine.new) }
+    ensures sets { Silent (change (spec_assign global (key_at engine.old.names key) (meaning_at engine.old.names meaning)) (state_of engine.old)) result (state_of engine.new) }
     ensures kept { engine.new.stop ≡ stop_after result }
     ensures keeps { OnOk result (Kept engine.old engine.new) }
     ensures advances { Advances engine.old engine.new }
@@ -66,10 +66,9 @@ fn set_value(
     ensures err { OnErr result (scope.new ≡ scope.old) }
 {
     if global {
-        scope.set_global(key, value, steps)
-    } else {
-        scope.set(key, value, steps)
+        return scope.set_global(key, value, steps);
     }
+    scope.set(key, value, steps)
 }
 
 /// Begins a group of this kind.
@@ -81,7 +80,7 @@ pub fn begin_group(engine: &mut Engine, kind: GroupKind) -> Result<(), Stop>
     requires running { engine.old.stop ≡ None }
     requires sound { Sound engine.old }
     requires kind { KindWithin (length engine.old.names) kind }
-    ensures begins { Quiet (begin_kind (kind_at engine.old.names kind) (state_of engine.old)) result (state_of engine.new) }
+    ensures begins { Silent (begin_kind (kind_at engine.old.names kind) (state_of engine.old)) result (state_of engine.new) }
     ensures kept { engine.new.stop ≡ stop_after result }
     ensures keeps { OnOk result (Kept engine.old engine.new) }
     ensures advances { Advances engine.old engine.new }
@@ -103,7 +102,7 @@ pub fn end_group(engine: &mut Engine, kind: GroupKind) -> Result<(), Stop>
     requires running { engine.old.stop ≡ None }
     requires sound { Sound engine.old }
     requires kind { KindWithin (length engine.old.names) kind }
-    ensures ends { Quiet (end_kind (kind_at engine.old.names kind) (state_of engine.old)) result (state_of engine.new) }
+    ensures ends { Silent (end_kind (kind_at engine.old.names kind) (state_of engine.old)) result (state_of engine.new) }
     ensures kept { engine.new.stop ≡ stop_after result }
     ensures keeps { OnOk result (Kept engine.old engine.new) }
     ensures advances { Advances engine.old engine.new }
@@ -113,8 +112,17 @@ pub fn end_group(engine: &mut Engine, kind: GroupKind) -> Result<(), Stop>
     engine.wrote(&steps);
     match ended {
         Ok(after) => engine.put(&after),
-        Err(ScopeFault::NoGroup) => Err(engine.bare_fault(fault_code::NO_GROUP)),
-        Err(ScopeFault::WrongGroup(_)) => Err(engine.bare_fault(fault_code::GROUP_MISMATCH)),
+        Err(fault) => Err(engine.bare_fault(end_code(fault))),
+    }
+}
+
+// The number of the fault of a group that can't end.
+fn end_code(fault: ScopeFault) -> u8
+    ensures { result ≡ spec_end_code fault }
+{
+    match fault {
+        ScopeFault::NoGroup => fault_code::NO_GROUP,
+        ScopeFault::WrongGroup(_) => fault_code::GROUP_MISMATCH,
     }
 }
 
@@ -127,7 +135,7 @@ pub fn read_after(engine: &mut Engine, token: Token) -> Result<(), Stop>
     requires running { engine.old.stop ≡ None }
     requires sound { Sound engine.old }
     requires token { TokenWithin (length engine.old.names) token }
-    ensures keeps_token { Quiet (change (spec_read_after (token_at engine.old.names token)) (state_of engine.old)) result (state_of engine.new) }
+    ensures keeps_token { Silent (change (spec_read_after (token_at engine.old.names token)) (state_of engine.old)) result (state_of engine.new) }
     ensures kept { engine.new.stop ≡ stop_after result }
     ensures keeps { OnOk result (Kept engine.old engine.new) }
     ensures advances { Advances engine.old engine.new }
@@ -146,7 +154,7 @@ pub fn read_after(engine: &mut Engine, token: Token) -> Result<(), Stop>
 pub fn put_kept(engine: &mut Engine) -> Result<(), Stop>
     requires running { engine.old.stop ≡ None }
     requires sound { Sound engine.old }
-    ensures puts { Quiet (change spec_put_kept (state_of engine.old)) result (state_of engine.new) }
+    ensures puts { Silent (change spec_put_kept (state_of engine.old)) result (state_of engine.new) }
     ensures kept { engine.new.stop ≡ stop_after result }
     ensures keeps { OnOk result (Kept engine.old engine.new) }
     ensures advances { Advances engine.old engine.new }

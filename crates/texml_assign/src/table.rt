@@ -3,7 +3,7 @@
 ghost use Rattle.std.specs.Prelude.{◌≡◌};
 ghost use Rattle.texml_assign.specs.Table.{executable_at, is_definition, is_assignment, with_prefix, may_follow};
 
-use crate::builtins::{
+use texml_scope::builtins::{
     AFTERASSIGNMENT, AFTERGROUP, BEGINGROUP, DEF, ENDGROUP, GDEF, GLOBAL, LET, LONG, OUTER, RELAX,
 };
 
