@@ -21,7 +21,12 @@ use Rattle.texml_expand.specs.Absorb.{closes, absorbed, absorb}
 use Rattle.texml_expand.specs.Feeding.{IsOpen, Judge, Feeds, judge_group}
 use Rattle.texml_expand.proofs.Falls.{Leads, leads_at, leads_weaker, lower_none, lower_then}
 use Rattle.texml_expand.proofs.Least.{choose_yes, choose_no, Decides, by_least_leads}
-use Rattle.texml_expand.proofs.Feeding.{verdict_at, Agrees, feeds_silent}
+use Rattle.texml_expand.proofs.Fed.{verdict_at, Agrees, feeds_silent}
+
+-- a group that ends is open
+pub one_open : (n : ℕ) (ends : Bool) → (n ≡ 0 → ends ≡ false) → ends ≡ true → 1 ≤ n
+one_open zero ends h e = let no = h refl in cc
+one_open (suc n) ends h e = omega arith
 
 -- how many of a list with one more at its end
 count_by-push : (p : Token → Bool) (list : List Token) (t : Token) → count_by p (list ++ t ∷ []) ≡ count_by p list + cond (p t) 1 0

@@ -22,21 +22,21 @@ choose_no b x y e = ap (λ c. if c then x else y) e
 
 -- the number at which a test holds, and below which it doesn't, is the least
 pub least_is : (n k : ℕ) (p : ℕ → Bool) → k ≤ n → ((j : ℕ) → j < k → p j ≡ false) → p k ≡ true → least n p ≡ k
-least_is zero zero p le no yes = refl
-least_is zero (suc k) p le no yes = absurd (omega arith)
-least_is (suc n) zero p le no yes = choose_yes (p zero) zero (suc (least n (λ j. p (suc j)))) yes
-least_is (suc n) (suc k) p le no yes =
-    choose_no (p zero) zero (suc (least n (λ j. p (suc j)))) (no zero (omega arith))
-    ∙ ap suc (least_is n k (λ j. p (suc j)) (omega arith) (λ j lt. no (suc j) (omega arith)) yes)
+least_is zero zero p le fails holds = refl
+least_is zero (suc k) p le fails holds = absurd (omega arith)
+least_is (suc n) zero p le fails holds = choose_yes (p zero) zero (suc (least n (λ j. p (suc j)))) holds
+least_is (suc n) (suc k) p le fails holds =
+    choose_no (p zero) zero (suc (least n (λ j. p (suc j)))) (fails zero (omega arith))
+    ∙ ap suc (least_is n k (λ j. p (suc j)) (omega arith) (λ j lt. fails (suc j) (omega arith)) holds)
 
 -- the test holds of the least number, where it holds of the bound
+holds_by : (n : ℕ) (p : ℕ → Bool) (b : Bool) → p zero ≡ b → p (suc (least n (λ j. p (suc j)))) ≡ true → p (least (suc n) p) ≡ true
+holds_by n p true f later = ap p (choose_yes (p zero) zero (suc (least n (λ j. p (suc j)))) f) ∙ f
+holds_by n p false f later = ap p (choose_no (p zero) zero (suc (least n (λ j. p (suc j)))) f) ∙ later
+
 pub least_holds : (n : ℕ) (p : ℕ → Bool) → p n ≡ true → p (least n p) ≡ true
 least_holds zero p e = e
-least_holds (suc n) p e = by (p zero) refl
-  where
-    by : (b : Bool) → p zero ≡ b → p (least (suc n) p) ≡ true
-    by true f = ap p (choose_yes (p zero) zero (suc (least n (λ j. p (suc j)))) f) ∙ f
-    by false f = ap p (choose_no (p zero) zero (suc (least n (λ j. p (suc j)))) f) ∙ least_holds n (λ j. p (suc j)) e
+least_holds (suc n) p e = holds_by n p (p zero) refl (least_holds n (λ j. p (suc j)) e)
 
 -- so many tokens were taken, and no expansion began
 pub record Takes (k : ℕ) (s t : State) : Type 0 where

@@ -3,7 +3,7 @@ pub mod Pages
 pub mod Turns
 pub mod Onward
 pub mod Lower
-pub mod Codes
+pub mod Catcodes
 pub mod Taking
 pub mod Putting
 pub mod Fresh
@@ -18,5 +18,5 @@ pub mod Judging
 pub mod Fronts
 pub mod Rounds
 pub mod Least
-pub mod Feeding
+pub mod Fed
 pub mod Groups

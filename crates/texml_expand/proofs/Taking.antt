@@ -59,3 +59,9 @@ silent_fault a code about place (stop.Limit n) s e h = absurd h
 silent_fault a code about place stop.ReadFailed s e h = absurd h
 silent_fault a code about place stop.TellFailed s e h = absurd h
 silent_fault a code about place stop.NoMemory s e h = tt
+
+-- a character that may not stand there
+pub take_invalid : (s : State) (f : RestFault) (rest : List (Item Token)) (place : Place) (st : Stop) (t : State) → IsNext (next (cats_of s.world) (end_of s.world) s.rest s.place) (Err f) rest place
+    → (f ≡ fault.NoMemory → ⊥) → IsFaultAt INVALID_CHAR [] place st → Silent (take s) (Err st) t
+take_invalid s (fault.Invalid c) rest place st t m other h = silent_fault (take s) INVALID_CHAR [] place st t (take_bad s rest place c m) h
+take_invalid s fault.NoMemory rest place st t m other h = absurd (other refl)

@@ -8,6 +8,7 @@ use texml_scope::{Key, Scope};
 use texml_token::category;
 
 /// The categories that characters have in a scope.
+#[derive(Clone, Copy)]
 pub struct ScopeCodes<'a>(pub &'a Scope);
 
 impl<'a> Codes for ScopeCodes<'a> {

@@ -1,5 +1,5 @@
 //! The tokens of a group in braces, as they are fed.
-ghost use Rattle.std.specs.Prelude.{◌≡◌, ◌+◌, ◌<◌, cond, IfOk};
+ghost use Rattle.std.specs.Prelude.{◌≡◌, ◌+◌, [], false, cond, IfOk};
 ghost use Rattle.texml_token.specs.Numbers.{Table, token_at};
 ghost use Rattle.texml_token.specs.declared.category.TheConstants.{BEGIN_GROUP, END_GROUP};
 ghost use Rattle.texml_token.specs.Token.{has_category};

@@ -1,6 +1,6 @@
 use Rattle.texml_expand.specs.State.{room}
 use Rattle.texml_expand.specs.Held.{state_of}
-use Rattle.texml_expand.proofs.Feeding.{Feeding}
+use Rattle.texml_expand.proofs.Fed.{Feeding}
 use Rattle.texml_expand.proofs.engine.Engine.feed.Given as goal
 
 abbrev pub invariant-tokens : goal.invariant-tokens

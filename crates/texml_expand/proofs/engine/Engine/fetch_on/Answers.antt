@@ -3,6 +3,7 @@ use Rattle.texml_token.specs.Numbers.{token_at, tokens_at}
 use Rattle.texml_expand.specs.Expand.{Body}
 use Rattle.texml_expand.proofs.Fronts.{kept_then}
 use Rattle.texml_expand.proofs.Rounds.{fetch_stops_front, fetch_ends, fetch_plain, fetch_stops_expand, fetching_on}
+use Rattle.texml_expand.proofs.Progress.{progress_then}
 use Rattle.texml_expand.proofs.engine.Engine.fetch_on.Goals as goal
 
 pub returns-in_err-front-clause-follows : goal.returns-in_err-front-clause-follows
@@ -42,3 +43,16 @@ fronts-preserved g c =
     let e = c.in_ok-expand-in-Expands.ensures in
     fetching_on _ _ g.T.Teller.faults (token_at n c.in-Expands.token) (Body (tokens_at n c.in-Expands.body)) _ _ _ _ _ _ _ c.fronts.invariant
     (rw c.in-Expands.is at f.fronts) (rw c.in-Expands.is at f.lower) f.keeps e.follows e.stops e.begins f.progress e.progress e.keeps
+
+pub returns-in_err-front-clause-progress : goal.returns-in_err-front-clause-progress
+returns-in_err-front-clause-progress g c = progress_then _ _ _ c.fronts.invariant.progress c.in_err-front.ensures.progress
+
+pub returns-in-Nothing-clause-progress : goal.returns-in-Nothing-clause-progress
+returns-in-Nothing-clause-progress g c = progress_then _ _ _ c.fronts.invariant.progress c.in_ok-front.ensures.progress
+
+pub returns-in-Plain-clause-progress : goal.returns-in-Plain-clause-progress
+returns-in-Plain-clause-progress g c = progress_then _ _ _ c.fronts.invariant.progress c.in_ok-front.ensures.progress
+
+pub returns-in_err-expand-in-Expands-clause-progress : goal.returns-in_err-expand-in-Expands-clause-progress
+returns-in_err-expand-in-Expands-clause-progress g c =
+    progress_then _ _ _ (progress_then _ _ _ c.fronts.invariant.progress c.in_ok-front.ensures.progress) c.in_err-expand-in-Expands.ensures.progress

@@ -68,6 +68,11 @@ feeding_none judge h running sound short = record {
   on = λ texts g more. refl;
 }
 
+-- the table of an engine is the one by which it is fed
+pub fed_by : {V : Type 0} (judge judge' : Judge V) (t : TokenCode) (verdict : Verdict V) (names given : Table) → names ≡ given → ((texts : Table) → Extends names texts → IsFed judge t verdict judge' texts)
+    → (texts : Table) → Extends given texts → IsFed judge t verdict judge' texts
+fed_by judge judge' t verdict names given e fed texts x = fed texts (subst (λ n. Extends n texts) (sym e) x)
+
 module _ {V : Type 0} (first judge judge' : Judge V) (old now new : Held) (t : TokenCode) (verdict : Verdict V) (f : Feeding first old judge now)
     (takes : inner_token (state_of now) ≡ Done (token_at new.names t) (state_of new) nothing) (keeps : Kept now new) (given : TokenWithin (length new.names) t)
     (fed : (texts : Table) → Extends new.names texts → IsFed judge t verdict judge' texts) where
@@ -98,10 +103,11 @@ module _ {V : Type 0} (first judge judge' : Judge V) (old now new : Held) (t : T
         let before = f.fronts j less in
         (before.0, before.1 ∙ ap (λ l. Done l before.0 nothing) (sym (same j)) ∙ ap (λ l. Done (tokens_at new.names l) before.0 nothing) (sym (take-append-le j f.seen (t ∷ []) (omega arith))))
     | inr le ↦
-        let e : j ≡ length f.seen = omega (arith, lt, le, push_length f.seen t) in
-        (state_of now,
+        let e : j ≡ length f.seen = omega (arith, lt, le, push_length f.seen t) in (
+          state_of now,
           ap (λ k. next_tokens k (state_of old)) e ∙ f.tokens ∙ ap (λ l. Done l (state_of now) nothing) (sym same_seen)
-          ∙ ap (λ l. Done (tokens_at new.names l) (state_of now) nothing) (sym (ap (λ k. take k list) e ∙ take-append_seam f.seen (t ∷ []))))
+              ∙ ap (λ l. Done (tokens_at new.names l) (state_of now) nothing) (sym (ap (λ k. take k list) e ∙ take-append_seam f.seen (t ∷ []))),
+        )
   ]
 
   whole : (texts : Table) → Extends new.names texts → first texts list ≡ verdict
