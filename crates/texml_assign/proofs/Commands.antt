@@ -35,14 +35,14 @@ use Rattle.texml_assign.specs.declared.table.Command.TheVariants.{Relax, Def, Gd
 use Rattle.texml_assign.specs.declared.table.Executable.{Executable}
 use Rattle.texml_assign.specs.declared.table.Executable.TheVariants.{Prefix, Command}
 use Rattle.texml_assign.specs.declared.table.Prefixes.{Prefixes}
-use Rattle.texml_assign.specs.declared.execute.Executed.{Executed}
-use Rattle.texml_assign.specs.declared.execute.Executed.TheVariants.{Yes, NotMine}
+use Rattle.texml_assign.specs.declared.executing.Executed.{Executed}
+use Rattle.texml_assign.specs.declared.executing.Executed.TheVariants.{Yes, NotMine}
 use Rattle.texml_assign.specs.Table.{executable_of, is_assignment, no_prefixes, with_prefix, may_follow}
 use Rattle.texml_assign.specs.Loop.{ByDepth, Next, On, Over, Loop, loops}
 use Rattle.texml_assign.specs.Meaning.{means}
 use Rattle.texml_assign.specs.Operands.{needed, next_token, token_of, token_or_end, key_of, next_key, is_space, space_turn, spaces_loop, behind_spaces, is_equals, behind_space, behind_sign, behind_equals, meaning_now, meant}
 use Rattle.texml_assign.specs.Sets.{assign, begin_kind, ended, end_kind, read_after, keep, keep_token, put_kept_of, put_kept}
-use Rattle.texml_assign.specs.Execute.{open_brace, plain_body, macro_of, defined, assigned, with_token, row, behind, perform, followed, prefix_word, prefix_turn, prefix_loop, prefixed, execute_prefixed, execute_by, execute}
+use Rattle.texml_assign.specs.Execute.{open_brace, plain_body, macro_of, defined, assigned, with_token, row, behind, perform, followed, prefix_word, prefix_turn, prefix_loop, prefixed, execute_prefixed, execute_word, execute_by, execute}
 use Rattle.texml_assign.proofs.Readings.{IsUnlimited, unlimited_chain, Lawful, Plain, lawful_plain, lawful_by, lawful_then, plain_by, plain_give, plain_fail, plain_change, plain_if, plain_then}
 use Rattle.texml_assign.proofs.Looping.{LawfulLoop, lawful_loop}
 
@@ -357,10 +357,13 @@ lawful_execute_prefixed x =
 pub lawful_yes : Lawful (λ n. give Yes)
 lawful_yes = lawful_plain (give Yes) (plain_give Yes)
 
+pub lawful_word : (x : Executable) → Lawful (execute_word x)
+lawful_word (Command c) = lawful_perform no_prefixes c
+lawful_word (Prefix x) = lawful_execute_prefixed x
+
 pub lawful_execute_by : (x : Option Executable) → Lawful (execute_by x)
 lawful_execute_by None = lawful_plain (give NotMine) (plain_give NotMine)
-lawful_execute_by (Some (Command c)) = lawful_then (perform no_prefixes c) (λ _ n. give Yes) (lawful_perform no_prefixes c) (λ _. lawful_yes)
-lawful_execute_by (Some (Prefix x)) = lawful_then (execute_prefixed x) (λ _ n. give Yes) (lawful_execute_prefixed x) (λ _. lawful_yes)
+lawful_execute_by (Some x) = lawful_then (execute_word x) (λ _ n. give Yes) (lawful_word x) (λ _. lawful_yes)
 
 pub lawful_execute : (t : Token) → Lawful (execute t)
 lawful_execute t = lawful_by (λ s. executable_of (means s.world t)) execute_by lawful_execute_by

@@ -17,8 +17,8 @@ use Rattle.texml_assign.specs.declared.table.Command.TheVariants.{Relax, Def, Gd
 use Rattle.texml_assign.specs.declared.table.Executable.{Executable}
 use Rattle.texml_assign.specs.declared.table.Executable.TheVariants.{Prefix, Command}
 use Rattle.texml_assign.specs.declared.table.Prefixes.{Prefixes}
-use Rattle.texml_assign.specs.declared.execute.Executed.{Executed}
-use Rattle.texml_assign.specs.declared.execute.Executed.TheVariants.{Yes, NotMine}
+use Rattle.texml_assign.specs.declared.executing.Executed.{Executed}
+use Rattle.texml_assign.specs.declared.executing.Executed.TheVariants.{Yes, NotMine}
 use Rattle.texml_assign.specs.Table.{executable_of, is_assignment, no_prefixes, with_prefix, may_follow}
 use Rattle.texml_assign.specs.Loop.{ByDepth, Next, On, Over, Loop, loops}
 use Rattle.texml_assign.specs.Meaning.{means}
@@ -118,13 +118,14 @@ execute_prefixed x n = do
   found ← prefixed (with_prefix no_prefixes x) n
   perform found.0 found.1 n
 
+abbrev pub execute_word : Executable → ByDepth (Unit {0})
+execute_word (Command c) = perform no_prefixes c
+execute_word (Prefix x) = execute_prefixed x
+
 abbrev pub execute_by : Option Executable → ByDepth Executed
 execute_by None n = give NotMine
-execute_by (Some (Command c)) n = do
-  perform no_prefixes c n
-  give Yes
-execute_by (Some (Prefix x)) n = do
-  execute_prefixed x n
+execute_by (Some x) n = do
+  execute_word x n
   give Yes
 
 -- what a token asks for by its meaning, where that is a prefix or a command

@@ -8,12 +8,12 @@
 #![tactic(auto)]
 
 mod define;
-mod execute;
+mod executing;
 mod meaning;
 mod operands;
 mod sets;
 mod table;
 
-pub use execute::{Executed, execute};
+pub use executing::{Executed, execute};
 pub use meaning::meaning_of;
 pub use sets::{begin_group, end_group};

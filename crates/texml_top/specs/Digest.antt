@@ -9,8 +9,8 @@ use Rattle.texml_scope.specs.declared.values.KindOf.TheVariants.{Brace}
 use Rattle.texml_scope.specs.declared.builtins.TheConstants.{PAR}
 use Rattle.texml_expand.specs.State.{State, Answer, Reading, ◌>>=◌, ◌>>◌, give, fail}
 use Rattle.texml_expand.specs.Expand.{level}
-use Rattle.texml_assign.specs.declared.execute.Executed.{Executed}
-use Rattle.texml_assign.specs.declared.execute.Executed.TheVariants.{Yes, NotMine}
+use Rattle.texml_assign.specs.declared.executing.Executed.{Executed}
+use Rattle.texml_assign.specs.declared.executing.Executed.TheVariants.{Yes, NotMine}
 use Rattle.texml_assign.specs.Loop.{ByDepth, Next, On, Loop, loops}
 use Rattle.texml_assign.specs.Meaning.{means}
 use Rattle.texml_assign.specs.Sets.{begin_kind, end_kind}

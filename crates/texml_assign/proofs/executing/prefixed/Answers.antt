@@ -11,7 +11,7 @@ use Rattle.texml_assign.specs.Loop.{On, Over}
 use Rattle.texml_assign.specs.Execute.{prefix_turn, prefix_loop}
 use Rattle.texml_assign.proofs.Doing.{does_call, does_now, does_out, does_fault, goes_stops, goes_ends, goes_turn_stops, goes_over, goes_on}
 use Rattle.texml_assign.proofs.Commands.{plain_prefix_turn, prefix_laws}
-use Rattle.texml_assign.proofs.execute.prefixed.Goals as goal
+use Rattle.texml_assign.proofs.executing.prefixed.Goals as goal
 
 pub returns-in_err-token-clause-does : goal.returns-in_err-token-clause-does
 returns-in_err-token-clause-does g c =

@@ -3,7 +3,7 @@ use Rattle.texml_expand.specs.Held.{state_of}
 use Rattle.texml_assign.specs.Execute.{execute}
 use Rattle.texml_assign.proofs.Doing.{does_lower}
 use Rattle.texml_assign.proofs.Commands.{lawful_execute}
-use Rattle.texml_assign.proofs.execute.execute.Goals as goal
+use Rattle.texml_assign.proofs.executing.execute.Goals as goal
 
 pub returns-clause-lower : goal.returns-clause-lower
 returns-clause-lower g c =

@@ -6,7 +6,7 @@ use Rattle.texml_expand.specs.Hearing.{hears, hears_part}
 use Rattle.texml_assign.specs.Execute.{prefix_loop}
 use Rattle.texml_assign.proofs.Commands.{prefix_laws}
 use Rattle.texml_assign.proofs.Doing.{Goes}
-use Rattle.texml_assign.proofs.execute.prefixed.Given as goal
+use Rattle.texml_assign.proofs.executing.prefixed.Given as goal
 
 abbrev pub invariant-rounds : goal.invariant-rounds
 invariant-rounds g l = record {

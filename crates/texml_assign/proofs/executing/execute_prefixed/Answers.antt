@@ -4,7 +4,7 @@ use Rattle.texml_assign.specs.Table.{no_prefixes, with_prefix}
 use Rattle.texml_assign.specs.Execute.{perform, prefixed}
 use Rattle.texml_assign.proofs.Doing.{does_then, does_stop}
 use Rattle.texml_assign.proofs.Commands.{lawful_prefixed, lawful_perform}
-use Rattle.texml_assign.proofs.execute.execute_prefixed.Goals as goal
+use Rattle.texml_assign.proofs.executing.execute_prefixed.Goals as goal
 
 pub returns-in_err-found-clause-does : goal.returns-in_err-found-clause-does
 returns-in_err-found-clause-does g c =

@@ -7,7 +7,7 @@ use Rattle.texml_assign.specs.Table.{executable_of}
 use Rattle.texml_assign.specs.Meaning.{means}
 use Rattle.texml_assign.specs.Operands.{is_space}
 use Rattle.texml_assign.specs.Execute.{prefix_word}
-use Rattle.texml_assign.proofs.execute.token_behind.Goals as goal
+use Rattle.texml_assign.proofs.executing.token_behind.Goals as goal
 
 pub returns-then-is_space : goal.returns-then-is_space
 returns-then-is_space c =

@@ -9,7 +9,7 @@ use Rattle.texml_assign.specs.Execute.{row}
 use Rattle.texml_assign.proofs.Readings.{plain_give}
 use Rattle.texml_assign.proofs.Doing.{does_silent, does_now}
 use Rattle.texml_assign.proofs.Commands.{plain_begin, plain_end}
-use Rattle.texml_assign.proofs.execute.row.Goals as goal
+use Rattle.texml_assign.proofs.executing.row.Goals as goal
 
 pub returns-in-Relax-clause-does : goal.returns-in-Relax-clause-does
 returns-in-Relax-clause-does g c = rw c.in-Relax.is (does_now _ _ (give tt) (plain_give tt) tt c.args.engine.now _ _ c.requires.sound c.requires.running refl)

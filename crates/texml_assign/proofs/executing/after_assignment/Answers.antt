@@ -8,7 +8,7 @@ use Rattle.texml_assign.proofs.Readings.{sure_change, lawful_plain}
 use Rattle.texml_assign.proofs.Doing.{does_then_sure, does_stop_sure, does_change}
 use Rattle.texml_assign.proofs.Worlds.{kept_set, advances_set}
 use Rattle.texml_assign.proofs.Commands.{plain_next}
-use Rattle.texml_assign.proofs.execute.after_assignment.Goals as goal
+use Rattle.texml_assign.proofs.executing.after_assignment.Goals as goal
 
 pub returns-in_err-token-clause-does : goal.returns-in_err-token-clause-does
 returns-in_err-token-clause-does g c =

@@ -11,7 +11,7 @@ ghost use Rattle.texml_assign.specs.Advance.{Advances};
 ghost use Rattle.texml_assign.specs.Doing.{Does};
 ghost use Rattle.texml_assign.specs.Table.{executable_of as spec_executable_of};
 ghost use Rattle.texml_assign.specs.Sets.{read_after as spec_read_after, keep_token};
-ghost use Rattle.texml_assign.specs.Execute.{with_token, row as spec_row, perform as spec_perform, followed, prefix_word, prefix_turn, prefixed as spec_prefixed, execute_prefixed as spec_execute_prefixed, execute as spec_execute, executes};
+ghost use Rattle.texml_assign.specs.Execute.{with_token, row as spec_row, perform as spec_perform, followed, prefix_word, prefix_turn, prefixed as spec_prefixed, execute_prefixed as spec_execute_prefixed, execute_word as spec_execute_word, execute as spec_execute, executes};
 ghost use Rattle.texml_assign.specs.Behind.{turn_of};
 
 use crate::define::{define, let_to};
@@ -99,13 +99,35 @@ fn execute_meaning<F: Files, T: Teller>(
     };
     match executable_of(&meaning) {
         None => Ok(Executed::NotMine),
-        Some(Executable::Command(command)) => {
-            perform(alloc, engine, files, tell, Prefixes::NONE, command)?;
+        Some(word) => {
+            execute_word(alloc, engine, files, tell, word)?;
             Ok(Executed::Yes)
         }
-        Some(Executable::Prefix(prefix)) => {
+    }
+}
+
+// Does a command, or that behind a prefix.
+fn execute_word<F: Files, T: Teller>(
+    alloc: Global,
+    engine: &mut Engine,
+    files: &mut F,
+    tell: &mut T,
+    word: Executable,
+) -> Result<(), Stop>
+    requires running { engine.old.stop ≡ None }
+    requires sound { Sound engine.old }
+    ensures does { Does (hears T.wanting T.heard) (hears_part T.wanting T.part) (spec_execute_word word) result engine.old engine.new
+        (outside (F.faults files.old) (T.faults tell.old)) (outside (F.faults files.new) (T.faults tell.new)) tell.old tell.new }
+    ensures files { files.new ≡ files.old }
+{
+    match word {
+        Executable::Command(command) => {
+            perform(alloc, engine, files, tell, Prefixes::NONE, command)?;
+            Ok(())
+        }
+        Executable::Prefix(prefix) => {
             execute_prefixed(alloc, engine, files, tell, prefix)?;
-            Ok(Executed::Yes)
+            Ok(())
         }
     }
 }

@@ -6,7 +6,7 @@ use Rattle.texml_assign.specs.Execute.{row, behind}
 use Rattle.texml_assign.proofs.Readings.{lawful_plain}
 use Rattle.texml_assign.proofs.Doing.{does_then, does_stop, does_now, does_as, does_change}
 use Rattle.texml_assign.proofs.Commands.{lawful_row, plain_behind}
-use Rattle.texml_assign.proofs.execute.perform.Goals as goal
+use Rattle.texml_assign.proofs.executing.perform.Goals as goal
 
 pub returns-in_err-row-clause-does : goal.returns-in_err-row-clause-does
 returns-in_err-row-clause-does g c =
