@@ -1,11 +1,12 @@
--- The HTML of the tokens that are left, where a paragraph is open or not.
+-- What is left to write of a page, where a paragraph is open or not.
 use Rattle.std.proofs.Common.{◌≡◌, ◌≢◌, ℕ, zero, suc, ◌+◌, List, [], ◌∷◌, ◌++◌, length, Bool, true, false, ◌==◌, if◌then◌else◌, replicate, refl, ap, ◌∙◌, append_assoc, append-nil, arith, add-one, length-append, lit<}
 use Rattle.std.specs.Prelude.{codes}
 use Rattle.std.specs.List.{flat_map}
 use Rattle.std.proofs.lemmas.Bool.{ne_eqb}
 use Rattle.std.proofs.lemmas.Str.{encode_ascii}
 use Rattle.texml_text.specs.Lines.{onto_first, trim_end}
-use Rattle.texml_top.specs.Page.{parts, paragraph, trim_start, escaped, open_rest, rest}
+use Rattle.texml_top.specs.Page.{parts, paragraph, trim_start, escaped}
+use Rattle.texml_top.specs.PageWriter.{open_rest, rest}
 use Rattle.texml_top.specs.declared.material.Material.{Material}
 use Rattle.texml_top.specs.declared.material.Material.TheVariants.{Char, Par}
 

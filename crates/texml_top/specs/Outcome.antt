@@ -9,7 +9,7 @@ use Rattle.texml_watch.specs.declared.record.Record.{Record}
 use Rattle.texml_watch.specs.Trace.{trace}
 use Rattle.texml_expand.specs.Rest.{Place, Text, fresh}
 use Rattle.texml_expand.specs.State.{State, End, Tex, Limit, Answer, Done, Ended, Unfinished, fault_at}
-use Rattle.texml_expand.specs.Contract.{Gives}
+use Rattle.texml_expand.specs.Contract.{DecidesOn}
 use Rattle.texml_top.specs.Request.{Request, asked}
 use Rattle.texml_top.specs.declared.request.Command.{Command}
 use Rattle.texml_top.specs.declared.request.Command.TheVariants.{Convert, Expand}
@@ -43,6 +43,7 @@ abbrev pub first_state : List ℕ → ℕ → List ℕ → State
 first_state file limit text = record {
   world = first_world;
   rest = Text (fresh file (lines (without_mark text))) ∷ [];
+  kept = None;
   begun = 0;
   limit = limit;
   nesting = 0;
@@ -65,7 +66,7 @@ IsOutcomeBy Expand (Unfinished gains) all = ⊥
 -- the outcome of a command from a state on
 pub record IsOutcomeFrom (command : Command) (s : State) (all : Outcome) : Type 0 where
   pub answer : Answer (List Material)
-  pub given : Gives (digests [] s) answer
+  pub given : DecidesOn (digests [] s) answer
   pub is : IsOutcomeBy command answer all
 
 abbrev pub IsOutcomeOf : Request → Result (List ℕ) Status → Outcome → Type 0

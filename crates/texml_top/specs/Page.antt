@@ -1,5 +1,5 @@
--- The HTML of a list of tokens.
-use Rattle.std.specs.Prelude.{ℕ, ◌==◌, Bool, true, false, replicate, List, [], ◌∷◌, ◌++◌, if◌then◌else◌, codes}
+-- The page: the HTML of what a text puts into the document.
+use Rattle.std.specs.Prelude.{ℕ, ◌==◌, List, [], ◌∷◌, ◌++◌, if◌then◌else◌, codes}
 use Rattle.std.specs.List.{flat_map}
 use Rattle.std.specs.Char.{encode_utf8}
 use Rattle.texml_text.specs.Lines.{onto_first, trim_end}
@@ -40,15 +40,3 @@ tail = codes "</main></body></html>\n"
 
 abbrev pub page : List Material → List ℕ
 page ts = head ++ (paragraphs ts ++ tail)
-
--- What is left to write where a paragraph is open, with spaces behind its text that may be at its end, and more parts.
-abbrev pub open_rest : ℕ → List (List ℕ) → List ℕ
-open_rest spaces [] = codes "</p>"
-open_rest spaces (p ∷ ps) =
-    flat_map escaped (trim_end (replicate spaces 32 ++ p))
-    ++ (codes "</p>" ++ flat_map (λ part. paragraph (trim_end (trim_start part))) ps)
-
--- what is left to write of these tokens, where a paragraph is open or not
-abbrev pub rest : Bool → ℕ → List Material → List ℕ
-rest false spaces ts = paragraphs ts
-rest true spaces ts = open_rest spaces (parts ts)

@@ -1,6 +1,7 @@
 -- How a run may end.
 use Rattle.std.specs.Prelude.{◌≡◌, ◌≢◌, ℕ, List, [], ◌++◌, take, Result, Ok, Err}
-use Rattle.texml_base.specs.Outside.{Ink, inked}
+use Rattle.texml_base.specs.Outside.{Shelf, Ink, inked}
+use Rattle.texml_base.specs.Rising.{Rose}
 use Rattle.texml_watch.specs.declared.record.Record.{Record}
 use Rattle.texml_watch.specs.Trace.{trace}
 use Rattle.texml_expand.specs.declared.stop.Stop.{Stop}
@@ -25,8 +26,8 @@ abbrev pub EndsAs : Status → Outcome → Ink → Ink → Type 0
 EndsAs s all old new = (s ≡ all.status) × (new ≡ inked old all.bytes)
 
 -- a first part of the bytes was written
-abbrev pub WrotePart : List ℕ → Ink → Ink → Type 0
-WrotePart bytes old new = (n : ℕ) × (new ≡ inked old (take n bytes))
+abbrev pub WroteFirst : List ℕ → Ink → Ink → Type 0
+WroteFirst bytes old new = (n : ℕ) × (new ≡ inked old (take n bytes))
 
 -- what a status says of the outcome, and of what was written; a write fails only where there is something to write
 abbrev pub MayEnd : Status → Outcome → Ink → Ink → Type 0
@@ -34,20 +35,35 @@ MayEnd Done all old new = EndsAs Done all old new
 MayEnd (Usage k) all old new = EndsAs (Usage k) all old new
 MayEnd (Tex f) all old new = EndsAs (Tex f) all old new
 MayEnd (Limit n) all old new = EndsAs (Limit n) all old new
-MayEnd ReadFault all old new = WrotePart all.bytes old new
-MayEnd WriteFault all old new = (all.bytes ≢ []) × WrotePart all.bytes old new
-MayEnd NoMemory all old new = WrotePart all.bytes old new
+MayEnd ReadFault all old new = WroteFirst all.bytes old new
+MayEnd WriteFault all old new = (all.bytes ≢ []) × WroteFirst all.bytes old new
+MayEnd NoMemory all old new = WroteFirst all.bytes old new
 
--- a failure is blamed only on what failed: its count of faults rose
-abbrev pub HasRunCause : Status → Type 0 → Type 0 → Type 0
-HasRunCause ReadFault files_rose out_rose = files_rose
-HasRunCause WriteFault files_rose out_rose = out_rose
-HasRunCause _ files_rose out_rose = Unit {0}
+-- the files' count of faults rose where they are blamed, and is as before on every other status
+abbrev pub FilesBlamed : Status → ℕ → ℕ → Type 0
+FilesBlamed ReadFault old new = Rose old new
+FilesBlamed _ old new = new ≡ old
+
+-- so did the sink's
+abbrev pub SinkBlamed : Status → ℕ → ℕ → Type 0
+SinkBlamed WriteFault old new = Rose old new
+SinkBlamed _ old new = new ≡ old
+
+-- a status that the words don't give: no refusal of words, and no other limit than this
+abbrev pub LimitIs : ℕ → Status → Type 0
+LimitIs limit (Usage k) = ⊥
+LimitIs limit (Limit n) = n ≡ limit
+LimitIs limit _ = Unit {0}
+
+-- what the words say of the status: words that are no command line are refused, and only they are; the limit is the one asked for
+abbrev pub FitsWords : Result Request ℕ → Status → Type 0
+FitsWords (Ok request) status = LimitIs request.limit status
+FitsWords (Err which) status = status ≡ Usage which
 
 -- words that are no command line are refused before anything is opened or written
-abbrev pub RefusesWords : Result Request ℕ → Status → Type 0 → Type 0
-RefusesWords (Ok request) status untouched = Unit {0}
-RefusesWords (Err which) status untouched = (status ≡ Usage which) × untouched
+abbrev pub TouchesNothing : Result Request ℕ → Shelf → Shelf → Ink → Ink → Type 0
+TouchesNothing (Ok request) shelf new ink more = Unit {0}
+TouchesNothing (Err which) shelf new ink more = (new ≡ shelf) × (more ≡ ink)
 
 -- convert writes nothing but where it is done, or where the sink failed
 abbrev pub WritesLate : Command → Status → Ink → Ink → Type 0

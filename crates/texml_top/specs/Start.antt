@@ -5,14 +5,15 @@ use Rattle.texml_expand.specs.Rest.{Place}
 use Rattle.texml_expand.specs.State.{fault_at}
 use Rattle.texml_expand.specs.Held.{Held, state_of}
 use Rattle.texml_top.specs.Outcome.{text_of, first_state}
+use Rattle.texml_top.specs.Run.{FilesBlamed}
 use Rattle.texml_top.specs.declared.status.Status.{Status}
 use Rattle.texml_top.specs.declared.status.Status.TheVariants.{Tex, ReadFault, NoMemory}
 
 -- this fault at the place, or want of memory
-abbrev pub IsFault : ℕ → List ℕ → Place → Status → Type 0
-IsFault code about place (Tex f) = f ≡ fault_at code about place
-IsFault code about place NoMemory = Unit {0}
-IsFault code about place _ = ⊥
+abbrev pub IsStatusAt : ℕ → List ℕ → Place → Status → Type 0
+IsStatusAt code about place (Tex f) = f ≡ fault_at code about place
+IsStatusAt code about place NoMemory = Unit {0}
+IsStatusAt code about place _ = ⊥
 
 -- an engine in the first state of this text
 abbrev pub IsFirst : List ℕ → ℕ → Result (List ℕ) Status → Held → Type 0
@@ -26,9 +27,14 @@ StartsOn name limit found (Err NoMemory) = Unit {0}
 StartsOn name limit found (Err _) = ⊥
 
 -- the same by what a shelf holds, where it tells that; or the files failed
-abbrev pub Starts : Shelf → List ℕ → ℕ → Result Held Status → Type 0 → Type 0
-Starts old name limit (Ok engine) rose = IsTrue old.tells → IsFirst name limit (text_of name (old.contents name)) engine
-Starts old name limit (Err (Tex f)) rose = IsTrue old.tells → text_of name (old.contents name) ≡ Err (Tex f)
-Starts old name limit (Err ReadFault) rose = rose
-Starts old name limit (Err NoMemory) rose = Unit {0}
-Starts old name limit (Err _) rose = ⊥
+abbrev pub Starts : Shelf → List ℕ → ℕ → Result Held Status → Type 0
+Starts old name limit (Ok engine) = IsTrue old.tells → IsFirst name limit (text_of name (old.contents name)) engine
+Starts old name limit (Err (Tex f)) = IsTrue old.tells → text_of name (old.contents name) ≡ Err (Tex f)
+Starts old name limit (Err ReadFault) = Unit {0}
+Starts old name limit (Err NoMemory) = Unit {0}
+Starts old name limit (Err _) = ⊥
+
+-- the files' count of faults rose where they failed, and is as before where they didn't
+abbrev pub StartBlames : Result Held Status → ℕ → ℕ → Type 0
+StartBlames (Ok engine) old new = new ≡ old
+StartBlames (Err s) old new = FilesBlamed s old new

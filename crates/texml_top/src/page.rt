@@ -1,6 +1,7 @@
-// Writes the HTML of a list of tokens.
+// Writes the page: the HTML of what a text put into the document.
 ghost use Rattle.std.specs.Prelude.{◌≡◌, ◌+◌, ◌<◌, ◌≤◌, ◌++◌, ◌∷◌, List, [], string_bytes, IfOk, OnOk, replicate};
-ghost use Rattle.texml_top.specs.Page.{page, escaped, rest, tail};
+ghost use Rattle.texml_top.specs.Page.{page, escaped, tail};
+ghost use Rattle.texml_top.specs.PageWriter.{rest};
 ghost use Rattle.texml_top.specs.declared.material.Material.{Material};
 
 use crate::material::Material;
@@ -11,21 +12,22 @@ const HEAD: &str =
 
 const TAIL: &str = "</main></body></html>\n";
 
-pub fn page_of(alloc: Global, tokens: &[Material]) -> Result<String, AllocError>
-    ensures { IfOk result (λ html. string_bytes html ≡ page tokens.now) }
+// The page of a document.
+pub fn page_of(alloc: Global, document: &[Material]) -> Result<String, AllocError>
+    ensures { IfOk result (λ html. string_bytes html ≡ page document.now) }
 {
     let mut writer = Writer {
         html: String::from_str(alloc, HEAD)?,
         is_open: false,
         spaces: 0,
     };
-    for token in tokens {
-        writer.push(*token)?;
+    for material in document {
+        writer.push(*material)?;
     }
     writer.finish()
 }
 
-// Writes paragraphs token by token.
+// Writes paragraphs piece by piece.
 #[derive(Drop)]
 struct Writer {
     html: String,
@@ -35,14 +37,15 @@ struct Writer {
 }
 
 impl Writer {
+    // Writes what a piece puts into the page.
     #[tactic(auto, using(crate::proofs::Streaming::streaming))]
-    fn push(&mut self, token: Material) -> Result<(), AllocError>
+    fn push(&mut self, material: Material) -> Result<(), AllocError>
         requires { self.old.spaces < usize.MAX }
-        ensures written { OnOk result ((ts : List Material) → string_bytes self.old.html ++ rest self.old.is_open self.old.spaces (token ∷ ts)
+        ensures written { OnOk result ((ts : List Material) → string_bytes self.old.html ++ rest self.old.is_open self.old.spaces (material ∷ ts)
             ≡ string_bytes self.new.html ++ rest self.new.is_open self.new.spaces ts) }
         ensures spaces { self.new.spaces ≤ self.old.spaces + 1 }
     {
-        match (token, self.is_open) {
+        match (material, self.is_open) {
             (Material::Par, true) => {
                 self.html.push_str("</p>")?;
                 self.is_open = false;
@@ -69,6 +72,7 @@ impl Writer {
         }
     }
 
+    // Ends the page.
     #[tactic(auto, using(crate::proofs::Streaming::streaming))]
     fn finish(self) -> Result<String, AllocError>
         ensures { IfOk result (λ html. string_bytes html ≡ string_bytes self.html ++ (rest self.is_open self.spaces [] ++ tail)) }
@@ -86,6 +90,7 @@ impl Writer {
     }
 }
 
+// Appends so many spaces.
 fn push_spaces(html: &mut String, count: usize) -> Result<(), AllocError>
     ensures { OnOk result (string_bytes html.new ≡ string_bytes html.old ++ replicate count 32) }
 {
@@ -95,6 +100,7 @@ fn push_spaces(html: &mut String, count: usize) -> Result<(), AllocError>
     Ok(())
 }
 
+// Appends a character, escaped where HTML asks for it.
 fn push_escaped(html: &mut String, c: char) -> Result<(), AllocError>
     ensures { OnOk result (string_bytes html.new ≡ string_bytes html.old ++ escaped c) }
 {

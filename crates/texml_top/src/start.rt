@@ -1,10 +1,9 @@
 // Starts an engine on a file.
-ghost use Rattle.std.specs.Prelude.{◌≡◌, ◌<◌, ◌≤◌, length, None, Some, IfOk};
+ghost use Rattle.std.specs.Prelude.{◌≡◌, ◌<◌, length, None, Some, IfOk};
 ghost use Rattle.std.specs.Str.{IsUtf8, chars};
-ghost use Rattle.texml_base.specs.Rising.{Rose};
 ghost use Rattle.texml_expand.specs.Held.{Sound, state_of};
 ghost use Rattle.texml_top.specs.Outcome.{text_of, first_state};
-ghost use Rattle.texml_top.specs.Start.{Starts, StartsOn};
+ghost use Rattle.texml_top.specs.Start.{Starts, StartsOn, StartBlames};
 
 use crate::source::read_whole;
 use crate::status::Status;
@@ -24,11 +23,12 @@ pub fn start_engine<F: Files>(
     limit: u64,
 ) -> Result<Engine, Status>
     requires { length (F.shelf files.old).ids < 1000 }
-    ensures starts { Starts (F.shelf files.old) name.now limit result (Rose (F.faults files.old) (F.faults files.new)) }
+    ensures starts { Starts (F.shelf files.old) name.now limit result }
+    ensures blames { StartBlames result (F.faults files.old) (F.faults files.new) }
+    ensures limit { IfOk result (λ engine. engine.limit ≡ limit) }
     ensures running { IfOk result (λ engine. engine.stop ≡ None) }
     ensures sound { IfOk result Sound }
     ensures closed { (F.shelf files.new).ids ≡ (F.shelf files.old).ids }
-    ensures faults { F.faults files.old ≤ F.faults files.new }
 {
     let bytes = match read_whole(alloc, files, name) {
         Ok(Some(bytes)) => bytes,
@@ -42,6 +42,7 @@ pub fn start_engine<F: Files>(
 // An engine that stands before the first line of these bytes.
 fn start_on(alloc: Global, name: &str, bytes: &[u8], limit: u64) -> Result<Engine, Status>
     ensures starts { StartsOn name.now limit (text_of name.now (Some bytes.now)) result }
+    ensures limit { IfOk result (λ engine. engine.limit ≡ limit) }
     ensures running { IfOk result (λ engine. engine.stop ≡ None) }
     ensures sound { IfOk result Sound }
 {
@@ -55,6 +56,7 @@ fn start_on(alloc: Global, name: &str, bytes: &[u8], limit: u64) -> Result<Engin
 fn first_engine(alloc: Global, name: &str, text: &[u8], limit: u64) -> Result<Engine, AllocError>
     requires { IsUtf8 text.now }
     ensures state { IfOk result (λ engine. state_of engine ≡ first_state name.now limit (chars text.now)) }
+    ensures limit { IfOk result (λ engine. engine.limit ≡ limit) }
     ensures running { IfOk result (λ engine. engine.stop ≡ None) }
     ensures sound { IfOk result Sound }
 {

@@ -52,11 +52,11 @@ impl From<Stop> for Status {
 
 impl Status {
     ghost use Rattle.texml_top.specs.Outcome.{before};
-    ghost use Rattle.texml_top.specs.Start.{IsFault};
+    ghost use Rattle.texml_top.specs.Start.{IsStatusAt};
 
     // A fault at the place before the first line of a file, or want of memory.
     pub(crate) fn fault(alloc: Global, code: u8, file: &str, about: &[u8]) -> Self
-        ensures { IsFault code about.now (before file.now) result }
+        ensures { IsStatusAt code about.now (before file.now) result }
     {
         match (
             Bytes::from_slice(alloc, file.as_bytes()),

@@ -4,7 +4,7 @@ ghost use Rattle.texml_base.specs.Rising.{Rose};
 ghost use Rattle.texml_expand.specs.Held.{Sound, state_of};
 ghost use Rattle.texml_top.specs.Request.{asked};
 ghost use Rattle.texml_top.specs.Outcome.{OfOutcome, FromState};
-ghost use Rattle.texml_top.specs.Run.{EndsAs, MayEnd, HasRunCause, RefusesWords, WritesLate, LateAsked, WritesPage, PageAsked, WholeLines, LinesBy, LinesAsked};
+ghost use Rattle.texml_top.specs.Run.{EndsAs, MayEnd, FilesBlamed, SinkBlamed, FitsWords, TouchesNothing, LimitIs, WritesLate, LateAsked, WritesPage, PageAsked, WholeLines, LinesBy, LinesAsked};
 ghost use Rattle.texml_top.specs.declared.request.Command.TheVariants.{Convert, Expand};
 
 use crate::digest::digest;
@@ -32,33 +32,26 @@ pub fn run<F: Files, S: Sink, N: Sink>(
     notes: &mut N,
 ) -> Status
     requires { (F.shelf files.old).ids ≡ [] }
-
     // Where the files tell what they hold and nothing fails, it is what the definitions say, or memory is short.
     ensures outcome { IsTrue (F.shelf files.old).tells → (Rose (F.faults files.old) (F.faults files.new) → ⊥) → (Rose (S.faults out.old) (S.faults out.new) → ⊥)
         → result ≢ Status.NoMemory → OfOutcome (map string_bytes words.now) (F.shelf files.old).contents (λ all. EndsAs result all (S.ink out.old) (S.ink out.new)) }
-
     // What each status says of the outcome and of what was written, whatever fails.
     ensures meets { IsTrue (F.shelf files.old).tells
         → OfOutcome (map string_bytes words.now) (F.shelf files.old).contents (λ all. MayEnd result all (S.ink out.old) (S.ink out.new)) }
-
-    // A failure has its cause.
-    ensures cause { HasRunCause result (Rose (F.faults files.old) (F.faults files.new)) (Rose (S.faults out.old) (S.faults out.new)) }
-
+    // A failure has its cause, and no failure is passed over or called by another name.
+    ensures files_cause { FilesBlamed result (F.faults files.old) (F.faults files.new) }
+    ensures out_cause { SinkBlamed result (S.faults out.old) (S.faults out.new) }
     // Nothing of a page is written before it is whole.
     ensures late { LateAsked (asked (map string_bytes words.now)) result (S.ink out.old) (S.ink out.new) }
     ensures page { IsTrue (F.shelf files.old).tells → OfOutcome (map string_bytes words.now) (F.shelf files.old).contents (PageAsked (asked (map string_bytes words.now)) result) }
-
     // Whatever ends it, whole lines of the trace were written, unless the sink failed.
     ensures lines { IsTrue (F.shelf files.old).tells → (Rose (S.faults out.old) (S.faults out.new) → ⊥) → OfOutcome (map string_bytes words.now) (F.shelf files.old).contents
         (λ all. LinesAsked (asked (map string_bytes words.now)) all (S.ink out.old) (S.ink out.new)) }
-
-    // Words that are no command line are refused before a file is opened.
-    ensures words { RefusesWords (asked (map string_bytes words.now)) result
-        ((F.shelf files.new ≡ F.shelf files.old) × (F.faults files.new ≡ F.faults files.old) × (S.ink out.new ≡ S.ink out.old)) }
-
+    // Words that are no command line are refused, and only they are, before a file is opened; the limit is the one asked for.
+    ensures words { FitsWords (asked (map string_bytes words.now)) result }
+    ensures untouched { TouchesNothing (asked (map string_bytes words.now)) (F.shelf files.old) (F.shelf files.new) (S.ink out.old) (S.ink out.new) }
     // Nothing is noted.
     ensures notes { N.ink notes.new ≡ N.ink notes.old }
-
     // No file is left open.
     ensures closed { (F.shelf files.new).ids ≡ [] }
 {
@@ -84,7 +77,9 @@ fn perform<F: Files, S: Sink>(
     requires running { engine.old.stop ≡ None }
     requires sound { Sound engine.old }
     ensures meets { FromState command (state_of engine.old) (λ all. MayEnd result all (S.ink out.old) (S.ink out.new)) }
-    ensures cause { HasRunCause result (Rose (F.faults files.old) (F.faults files.new)) (Rose (S.faults out.old) (S.faults out.new)) }
+    ensures files_cause { FilesBlamed result (F.faults files.old) (F.faults files.new) }
+    ensures out_cause { SinkBlamed result (S.faults out.old) (S.faults out.new) }
+    ensures limit { LimitIs engine.old.limit result }
     ensures late { WritesLate command result (S.ink out.old) (S.ink out.new) }
     ensures page { FromState command (state_of engine.old) (WritesPage command result) }
     ensures lines { (Rose (S.faults out.old) (S.faults out.new) → ⊥) → FromState command (state_of engine.old) (λ all. LinesBy command all (S.ink out.old) (S.ink out.new)) }
@@ -106,7 +101,9 @@ fn convert<F: Files, S: Sink>(
     requires running { engine.old.stop ≡ None }
     requires sound { Sound engine.old }
     ensures meets { FromState Convert (state_of engine.old) (λ all. MayEnd result all (S.ink out.old) (S.ink out.new)) }
-    ensures cause { HasRunCause result (Rose (F.faults files.old) (F.faults files.new)) (Rose (S.faults out.old) (S.faults out.new)) }
+    ensures files_cause { FilesBlamed result (F.faults files.old) (F.faults files.new) }
+    ensures out_cause { SinkBlamed result (S.faults out.old) (S.faults out.new) }
+    ensures limit { LimitIs engine.old.limit result }
     ensures late { WritesLate Convert result (S.ink out.old) (S.ink out.new) }
     ensures page { FromState Convert (state_of engine.old) (WritesPage Convert result) }
     ensures files { files.new ≡ files.old }
@@ -135,7 +132,9 @@ fn expand<F: Files, S: Sink>(
     requires running { engine.old.stop ≡ None }
     requires sound { Sound engine.old }
     ensures meets { FromState Expand (state_of engine.old) (λ all. MayEnd result all (S.ink out.old) (S.ink out.new)) }
-    ensures cause { HasRunCause result (Rose (F.faults files.old) (F.faults files.new)) (Rose (S.faults out.old) (S.faults out.new)) }
+    ensures files_cause { FilesBlamed result (F.faults files.old) (F.faults files.new) }
+    ensures out_cause { SinkBlamed result (S.faults out.old) (S.faults out.new) }
+    ensures limit { LimitIs engine.old.limit result }
     ensures lines { (Rose (S.faults out.old) (S.faults out.new) → ⊥) → FromState Expand (state_of engine.old) (λ all. WholeLines all (S.ink out.old) (S.ink out.new)) }
     ensures files { files.new ≡ files.old }
 {
@@ -154,7 +153,9 @@ fn trace<F: Files, S: Sink>(
     requires sound { Sound engine.old }
     ensures loan { lines.new.sink.ghost_name ≡ lines.old.sink.ghost_name }
     ensures meets { FromState Expand (state_of engine.old) (λ all. MayEnd result all (S.ink lines.old.sink.now) (S.ink lines.new.sink.now)) }
-    ensures cause { HasRunCause result (Rose (F.faults files.old) (F.faults files.new)) (Rose (S.faults lines.old.sink.now) (S.faults lines.new.sink.now)) }
+    ensures files_cause { FilesBlamed result (F.faults files.old) (F.faults files.new) }
+    ensures out_cause { SinkBlamed result (S.faults lines.old.sink.now) (S.faults lines.new.sink.now) }
+    ensures limit { LimitIs engine.old.limit result }
     ensures whole { (Rose (S.faults lines.old.sink.now) (S.faults lines.new.sink.now) → ⊥)
         → FromState Expand (state_of engine.old) (λ all. WholeLines all (S.ink lines.old.sink.now) (S.ink lines.new.sink.now)) }
     ensures files { files.new ≡ files.old }

@@ -1,5 +1,6 @@
 use Rattle.std.proofs.Common.{◌≢◌, ◌++◌, ◌∙◌, ap, sym, append_assoc, string_bytes, true, replicate}
-use Rattle.texml_top.specs.Page.{rest, paragraphs, escaped}
+use Rattle.texml_top.specs.Page.{paragraphs, escaped}
+use Rattle.texml_top.specs.PageWriter.{rest}
 use Rattle.texml_top.proofs.Streaming.{rest_open_par, rest_open_char}
 use Rattle.texml_top.proofs.page.Writer.push.Goals as goal
 

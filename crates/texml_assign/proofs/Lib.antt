@@ -1,0 +1,6 @@
+pub mod Readings
+pub mod Looping
+pub mod Doing
+pub mod Commands
+pub mod Worlds
+pub mod Searching

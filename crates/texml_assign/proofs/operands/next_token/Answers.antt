@@ -1,0 +1,24 @@
+use Rattle.std.proofs.Common.{Some, None, refl, ap, rules}
+use Rattle.texml_token.specs.Numbers.{token_at}
+use Rattle.texml_assign.specs.Operands.{token_or_end, needed}
+use Rattle.texml_assign.proofs.Readings.{lawful_plain}
+use Rattle.texml_assign.proofs.Doing.{does_then, does_stop, does_now, does_fault}
+use Rattle.texml_assign.proofs.Commands.{plain_token_or_end, plain_needed}
+use Rattle.texml_assign.proofs.operands.next_token.Goals as goal
+
+pub returns-in_err-next-clause-does : goal.returns-in_err-next-clause-does
+returns-in_err-next-clause-does g c =
+    let h = does_stop _ _ (λ n. token_or_end) (λ o n. needed o) (lawful_plain token_or_end plain_token_or_end) (λ o. lawful_plain (needed o) (plain_needed o)) _ _ _ _ _ _ _ c.requires.sound c.in_err-next.ensures.does in
+    search (rules, h)
+
+pub returns-in-Some-clause-does : goal.returns-in-Some-clause-does
+returns-in-Some-clause-does g c =
+    let mid = c.token_or_end.new.engine in let f = rw c.in-Some.is at c.in_ok-next.ensures.does in let t = token_at mid.names c.in-Some.token in
+    does_then _ _ (λ n. token_or_end) (λ o n. needed o) (lawful_plain token_or_end plain_token_or_end) (λ o. lawful_plain (needed o) (plain_needed o)) (Some t) _ _ mid mid _ _ _ _ _ _
+    f (does_now _ _ (needed (Some t)) (plain_needed (Some t)) t mid _ _ f.keeps.sound f.stops.kept refl)
+
+pub returns-in-None-clause-does : goal.returns-in-None-clause-does
+returns-in-None-clause-does g c =
+    let mid = c.token_or_end.new.engine in let f = rw c.in-None.is at c.in_ok-next.ensures.does in
+    does_then _ _ (λ n. token_or_end) (λ o n. needed o) (lawful_plain token_or_end plain_token_or_end) (λ o. lawful_plain (needed o) (plain_needed o)) None _ _ mid c.bare_fault.new.self _ _ _ _ _ _
+    f (does_fault _ _ (needed None) (plain_needed None) 4 c.bare_fault.result mid c.bare_fault.new.self _ _ refl c.bare_fault.ensures.is c.bare_fault.ensures.kept)

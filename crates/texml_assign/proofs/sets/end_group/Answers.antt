@@ -1,0 +1,52 @@
+use Rattle.std.proofs.Common.{◌≡◌, length, subst, sym, ap, ◌∙◌, Ok, Err}
+use Rattle.std.proofs.lemmas.Result.{on_ok_weaker}
+use Rattle.texml_token.specs.Numbers.{TokensWithin}
+use Rattle.texml_scope.specs.Groups.{end_group}
+use Rattle.texml_scope.specs.Values.{same_kind}
+use Rattle.texml_scope.specs.Shown.{Shown, world_of}
+use Rattle.texml_expand.specs.Held.{Held}
+use Rattle.texml_expand.proofs.Fronts.{kept_then}
+use Rattle.texml_assign.proofs.Doing.{advances_then}
+use Rattle.texml_assign.proofs.Worlds.{scope_kept, end_puts, end_stops, end_keeps, advances_wrote, advances_stops, advances_put}
+use Rattle.texml_assign.proofs.sets.end_group.Goals as goal
+
+pub put-requires-clause-sound : goal.put-requires-clause-sound
+put-requires-clause-sound c = λ running.
+    let h = c.args.engine.now in let s = c.end-ended.new.self in
+    let k = end_keeps h s c.args.kind c.in-Ok.after c.requires.sound (subst (λ (w : Shown). (world_of s, Ok c.in-Ok.after) ≡ end_group same_kind c.args.kind (world_of w)) c.scope.ensures.value c.in-Ok.ensures.ends) in
+    (scope_kept h c.wrote.new.self s _ c.requires.sound k.0 c.wrote.ensures).sound
+
+pub put-requires-clause-tokens : goal.put-requires-clause-tokens
+put-requires-clause-tokens c = λ running.
+    let h = c.args.engine.now in let s = c.end-ended.new.self in
+    let k = end_keeps h s c.args.kind c.in-Ok.after c.requires.sound (subst (λ (w : Shown). (world_of s, Ok c.in-Ok.after) ≡ end_group same_kind c.args.kind (world_of w)) c.scope.ensures.value c.in-Ok.ensures.ends) in
+    subst (λ (h : Held). TokensWithin (length h.names) c.in-Ok.after) (sym c.wrote.ensures) k.1
+
+pub returns-in-Ok-clause-ends : goal.returns-in-Ok-clause-ends
+returns-in-Ok-clause-ends c =
+    let h = c.args.engine.now in let s = c.end-ended.new.self in
+    let running = ap (λ (h : Held). h.stop) c.wrote.ensures ∙ c.requires.running in
+    end_puts h c.wrote.new.self c.put.new.self s c.args.kind c.in-Ok.after _ c.put.result _ c.requires.sound c.requires.kind
+    (subst (λ (w : Shown). (world_of s, Ok c.in-Ok.after) ≡ end_group same_kind c.args.kind (world_of w)) c.scope.ensures.value c.in-Ok.ensures.ends) c.wrote.ensures (c.put.ensures.puts running)
+
+pub returns-in-Ok-clause-keeps : goal.returns-in-Ok-clause-keeps
+returns-in-Ok-clause-keeps c =
+    let h = c.args.engine.now in let s = c.end-ended.new.self in
+    let running = ap (λ (h : Held). h.stop) c.wrote.ensures ∙ c.requires.running in
+    let k = end_keeps h s c.args.kind c.in-Ok.after c.requires.sound (subst (λ (w : Shown). (world_of s, Ok c.in-Ok.after) ≡ end_group same_kind c.args.kind (world_of w)) c.scope.ensures.value c.in-Ok.ensures.ends) in
+    on_ok_weaker c.put.result (kept_then h c.wrote.new.self c.put.new.self (scope_kept h c.wrote.new.self s _ c.requires.sound k.0 c.wrote.ensures)) (c.put.ensures.keeps running)
+
+pub returns-in-Ok-clause-advances : goal.returns-in-Ok-clause-advances
+returns-in-Ok-clause-advances c =
+    let h = c.args.engine.now in let running = ap (λ (h : Held). h.stop) c.wrote.ensures ∙ c.requires.running in
+    advances_then h c.wrote.new.self c.put.new.self (advances_wrote h c.wrote.new.self c.end-ended.new.self _ c.wrote.ensures) (advances_put c.wrote.new.self c.put.new.self c.put.result _ (c.put.ensures.puts running) (c.put.ensures.rest running))
+
+pub returns-in-Err-clause-ends : goal.returns-in-Err-clause-ends
+returns-in-Err-clause-ends c =
+    let s = c.end-ended.new.self in let f = c.in-Err.fault in
+    end_stops c.args.engine.now c.wrote.new.self c.bare_fault.new.self s c.args.kind _ c.bare_fault.result f c.requires.sound c.requires.kind
+    (subst (λ (w : Shown). (world_of s, Err f) ≡ end_group same_kind c.args.kind (world_of w)) c.scope.ensures.value c.in-Err.ensures.ends) c.wrote.ensures
+    (rw (← c.end_code.ensures) c.bare_fault.ensures.is)
+
+pub returns-in-Err-clause-advances : goal.returns-in-Err-clause-advances
+returns-in-Err-clause-advances c = advances_stops c.args.engine.now c.wrote.new.self c.bare_fault.new.self c.end-ended.new.self _ _ c.wrote.ensures c.bare_fault.ensures.kept

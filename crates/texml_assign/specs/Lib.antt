@@ -1,0 +1,10 @@
+pub mod Table
+pub mod Loop
+pub mod Meaning
+pub mod Operands
+pub mod Sets
+pub mod Execute
+pub mod Advance
+pub mod Doing
+pub mod Setting
+pub mod Behind

@@ -1,0 +1,55 @@
+-- What can be executed: prefixes and commands, and what may stand behind what (The TeXbook, chapter 24).
+use Rattle.std.specs.Prelude.{ℕ, ◌==◌, ◌||◌, Bool, true, false, if◌then◌else◌, Option, None, Some}
+use Rattle.texml_scope.specs.Texts.{Meaning}
+use Rattle.texml_scope.specs.declared.values.MeaningOf.TheVariants.{Builtin}
+use Rattle.texml_scope.specs.declared.builtins.TheConstants.{RELAX, DEF, GDEF, LET, LONG, OUTER, GLOBAL, BEGINGROUP, ENDGROUP, AFTERGROUP, AFTERASSIGNMENT}
+use Rattle.texml_assign.specs.declared.table.Prefix.{Prefix as PrefixWord}
+use Rattle.texml_assign.specs.declared.table.Prefix.TheVariants.{Long, Outer, Global}
+use Rattle.texml_assign.specs.declared.table.Command.{Command as CommandWord}
+use Rattle.texml_assign.specs.declared.table.Command.TheVariants.{Relax, Def, Gdef, Let, BeginGroup, EndGroup, AfterGroup, AfterAssignment}
+use Rattle.texml_assign.specs.declared.table.Executable.{Executable}
+use Rattle.texml_assign.specs.declared.table.Executable.TheVariants.{Prefix, Command}
+use Rattle.texml_assign.specs.declared.table.Prefixes.{Prefixes}
+
+-- what the builtin of a place is, if it can be executed
+abbrev pub executable_at : ℕ → Option Executable
+executable_at place =
+    if place == RELAX then Some (Command Relax)
+    else if place == DEF then Some (Command Def)
+    else if place == GDEF then Some (Command Gdef)
+    else if place == LET then Some (Command Let)
+    else if place == LONG then Some (Prefix Long)
+    else if place == OUTER then Some (Prefix Outer)
+    else if place == GLOBAL then Some (Prefix Global)
+    else if place == BEGINGROUP then Some (Command BeginGroup)
+    else if place == ENDGROUP then Some (Command EndGroup)
+    else if place == AFTERGROUP then Some (Command AfterGroup)
+    else if place == AFTERASSIGNMENT then Some (Command AfterAssignment)
+    else None
+
+abbrev pub executable_of : Meaning → Option Executable
+executable_of (Builtin place) = executable_at place
+executable_of m = None
+
+-- which commands are definitions, and which are assignments: behind these comes the token of \afterassignment
+abbrev pub is_definition : CommandWord → Bool
+is_definition Def = true
+is_definition Gdef = true
+is_definition c = false
+
+abbrev pub is_assignment : CommandWord → Bool
+is_assignment Let = true
+is_assignment c = is_definition c
+
+abbrev pub no_prefixes : Prefixes
+no_prefixes = record { long = false; outer = false; global = false }
+
+-- the prefixes with one more
+abbrev pub with_prefix : Prefixes → PrefixWord → Prefixes
+with_prefix p Long = record p { long = true }
+with_prefix p Outer = record p { outer = true }
+with_prefix p Global = record p { global = true }
+
+-- whether a command may stand behind prefixes: an assignment, and behind \long or \outer a definition alone
+abbrev pub may_follow : Prefixes → CommandWord → Bool
+may_follow p c = if p.long || p.outer then is_definition c else is_assignment c

@@ -1,0 +1,19 @@
+//! The commands that change the world.
+//!
+//! A token that was fetched and means a command or a prefix is executed: its operands are read from left to right, and then
+//! the world is changed. The contract in a sentence: `execute` takes an engine from a state to the state that a row of the
+//! table of commands gives, with exactly the expansions on the way, or stops it for a reason that the row names, and does
+//! nothing where the token means no command.
+//! It stands on texml_base, texml_token, texml_scope, texml_watch and texml_expand.
+#![tactic(auto)]
+
+mod define;
+mod executing;
+mod meaning;
+mod operands;
+mod sets;
+mod table;
+
+pub use executing::{Executed, execute};
+pub use meaning::meaning_of;
+pub use sets::{begin_group, end_group};

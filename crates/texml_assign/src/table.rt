@@ -1,0 +1,118 @@
+//! What can be executed: prefixes and commands.
+
+ghost use Rattle.std.specs.Prelude.{◌≡◌};
+ghost use Rattle.texml_assign.specs.Table.{executable_at, is_definition, is_assignment, with_prefix, may_follow};
+
+use texml_scope::builtins::{
+    AFTERASSIGNMENT, AFTERGROUP, BEGINGROUP, DEF, ENDGROUP, GDEF, GLOBAL, LET, LONG, OUTER, RELAX,
+};
+
+/// A prefix of commands (The TeXbook, chapter 24).
+#[derive(Clone, Copy, Debug, PartialEq, Eq)]
+pub enum Prefix {
+    Long,
+    Outer,
+    Global,
+}
+
+/// A command.
+#[derive(Clone, Copy, Debug, PartialEq, Eq)]
+pub enum Command {
+    Relax,
+    Def,
+    Gdef,
+    Let,
+    BeginGroup,
+    EndGroup,
+    AfterGroup,
+    AfterAssignment,
+}
+
+/// What can be executed.
+#[derive(Clone, Copy, Debug, PartialEq, Eq)]
+pub enum Executable {
+    Prefix(Prefix),
+    Command(Command),
+}
+
+/// The prefixes that stand before a command.
+#[derive(Clone, Copy, Debug, PartialEq, Eq)]
+pub struct Prefixes {
+    pub long: bool,
+    pub outer: bool,
+    pub global: bool,
+}
+
+impl Prefixes {
+    /// No prefix.
+    pub const NONE: Prefixes = Prefixes {
+        long: false,
+        outer: false,
+        global: false,
+    };
+}
+
+/// What the builtin of this place is, if it can be executed.
+pub fn executable_at(place: u16) -> Option<Executable>
+    ensures { result ≡ executable_at place }
+{
+    match place {
+        RELAX => Some(Executable::Command(Command::Relax)),
+        DEF => Some(Executable::Command(Command::Def)),
+        GDEF => Some(Executable::Command(Command::Gdef)),
+        LET => Some(Executable::Command(Command::Let)),
+        LONG => Some(Executable::Prefix(Prefix::Long)),
+        OUTER => Some(Executable::Prefix(Prefix::Outer)),
+        GLOBAL => Some(Executable::Prefix(Prefix::Global)),
+        BEGINGROUP => Some(Executable::Command(Command::BeginGroup)),
+        ENDGROUP => Some(Executable::Command(Command::EndGroup)),
+        AFTERGROUP => Some(Executable::Command(Command::AfterGroup)),
+        AFTERASSIGNMENT => Some(Executable::Command(Command::AfterAssignment)),
+        _ => None,
+    }
+}
+
+/// Whether a command is a definition.
+pub fn is_definition(command: Command) -> bool
+    ensures { result ≡ is_definition command }
+{
+    matches!(command, Command::Def | Command::Gdef)
+}
+
+/// Whether a command is an assignment, behind which the token of `\afterassignment` comes.
+pub fn is_assignment(command: Command) -> bool
+    ensures { result ≡ is_assignment command }
+{
+    matches!(command, Command::Def | Command::Gdef | Command::Let)
+}
+
+/// The prefixes with one more.
+pub fn with_prefix(prefixes: Prefixes, prefix: Prefix) -> Prefixes
+    ensures { result ≡ with_prefix prefixes prefix }
+{
+    match prefix {
+        Prefix::Long => Prefixes {
+            long: true,
+            ..prefixes
+        },
+        Prefix::Outer => Prefixes {
+            outer: true,
+            ..prefixes
+        },
+        Prefix::Global => Prefixes {
+            global: true,
+            ..prefixes
+        },
+    }
+}
+
+/// Whether a command may stand behind prefixes: an assignment, and behind `\long` or `\outer` only a definition.
+pub fn may_follow(prefixes: Prefixes, command: Command) -> bool
+    ensures { result ≡ may_follow prefixes command }
+{
+    if prefixes.long || prefixes.outer {
+        is_definition(command)
+    } else {
+        is_assignment(command)
+    }
+}
