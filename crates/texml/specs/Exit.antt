@@ -1,13 +1,53 @@
--- The exit status of a run.
-use Rattle.std.specs.Prelude.{ℕ}
+-- How the program ends.
+use Rattle.std.specs.Prelude.{◌≡◌, ℕ, List, [], map, IsTrue, Result, Ok, Err, string_bytes}
+use Rattle.std.specs.declared.string.String.{String}
+use Rattle.std.specs.declared.vec.Vec.{Vec}
+use Rattle.std.specs.declared.alloc.Global.{Global}
+use Rattle.texml_base.specs.Outside.{Shelf, Ink}
+use Rattle.texml_base.specs.Rising.{Rose}
+use Rattle.texml_top.specs.Request.{asked}
+use Rattle.texml_top.specs.Outcome.{OfOutcome}
+use Rattle.texml_top.specs.Run.{MayEnd, HasRunCause, RefusesWords}
 use Rattle.texml_top.specs.declared.status.Status.{Status}
-use Rattle.texml_top.specs.declared.status.Status.TheVariants.{Done, Usage, Tex, Limit, ReadFault, WriteFault, NoMemory}
+use Rattle.texml_top.specs.declared.status.Status.TheVariants as status
+use Rattle.texml.specs.declared.words.WordsFault.{WordsFault}
+use Rattle.texml.specs.declared.words.WordsFault.TheVariants.{NotText, NoMemory}
 
+-- the exit code that stands for a status
 abbrev pub exit_code : Status → ℕ
-exit_code Done = 0
-exit_code (Tex f) = 1
-exit_code (Usage k) = 2
-exit_code (Limit n) = 5
-exit_code ReadFault = 6
-exit_code WriteFault = 7
-exit_code NoMemory = 8
+exit_code status.Done = 0
+exit_code (status.Tex f) = 1
+exit_code (status.Usage k) = 2
+exit_code (status.Limit n) = 5
+exit_code status.ReadFault = 6
+exit_code status.WriteFault = 7
+exit_code status.NoMemory = 8
+
+-- What the program sees of the outside: files and how often they failed, what was written and how often that failed, and
+-- what was noted.
+pub record Outside : Type 0 where
+  pub shelf : Shelf
+  pub reads : ℕ
+  pub ink : Ink
+  pub writes : ℕ
+  pub notes : Ink
+
+-- the code is that of a status with which a run of these words may end
+pub record ExitsRun (words : List (List ℕ)) (old new : Outside) (code : ℕ) : Type 0 where
+  pub status : Status
+  pub is : code ≡ exit_code status
+  pub meets : IsTrue old.shelf.tells → OfOutcome words old.shelf.contents (λ all. MayEnd status all old.ink new.ink)
+  pub cause : HasRunCause status (Rose old.reads new.reads) (Rose old.writes new.writes)
+  pub refused : RefusesWords (asked words) status ((new.shelf ≡ old.shelf) × (new.reads ≡ old.reads) × (new.ink ≡ old.ink))
+  pub notes : new.notes ≡ old.notes
+  pub closed : new.shelf.ids ≡ []
+
+-- the code is that of this status, and nothing was opened or written
+abbrev pub ExitsAtOnce : Status → Outside → Outside → ℕ → Type 0
+ExitsAtOnce s old new code = (code ≡ exit_code s) × (new ≡ old)
+
+-- what the code is for words that were read, or were not
+abbrev pub ExitsFor : Result (Vec (String Global) Global) WordsFault → Outside → Outside → ℕ → Type 0
+ExitsFor (Ok words) old new code = ExitsRun (map string_bytes words.items) old new code
+ExitsFor (Err (NotText which)) old new code = ExitsAtOnce (status.Usage which) old new code
+ExitsFor (Err NoMemory) old new code = ExitsAtOnce status.NoMemory old new code

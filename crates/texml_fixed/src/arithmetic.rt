@@ -1,7 +1,7 @@
 //! Sums, products and quotients of numbers, within their bounds.
 
-ghost use Rattle.std.specs.Prelude.{◌≡◌, ◌≤◌, ◌^◌, ◌+ℤ◌, ◌*ℤ◌, unsigned_abs};
-ghost use Rattle.texml_fixed.specs.Arithmetic.{bounded, divided};
+ghost use Rattle.std.specs.Prelude.{◌≡◌, ◌≤◌, ◌^◌, ◌+ℤ◌, ◌*ℤ◌, IfOk, unsigned_abs};
+ghost use Rattle.texml_fixed.specs.Arithmetic.{bounded, divided, IsWithin};
 
 use crate::fault::NumFault;
 
@@ -17,7 +17,8 @@ pub const MAX_DIMENSION: i32 = 1_073_741_823;
 ///
 /// `Overflow` exactly where it passes ±2147483647.
 pub fn add(a: i32, b: i32) -> Result<i32, NumFault>
-    ensures { result ≡ bounded NumFault.Overflow MAX_NUMBER (a +ℤ b) }
+    ensures value { result ≡ bounded NumFault.Overflow MAX_NUMBER (a +ℤ b) }
+    ensures within { IfOk result IsWithin }
 {
     within(NumFault::Overflow, MAX_NUMBER, i64::from(a) + i64::from(b))
 }
@@ -28,7 +29,8 @@ pub fn add(a: i32, b: i32) -> Result<i32, NumFault>
 ///
 /// `Overflow` exactly where it passes ±`bound`.
 pub fn times(a: i32, n: i32, bound: i32) -> Result<i32, NumFault>
-    ensures { result ≡ bounded NumFault.Overflow bound (a *ℤ n) }
+    ensures value { result ≡ bounded NumFault.Overflow bound (a *ℤ n) }
+    ensures within { IfOk result IsWithin }
 {
     within(NumFault::Overflow, bound, product(a, n))
 }
@@ -39,7 +41,8 @@ pub fn times(a: i32, n: i32, bound: i32) -> Result<i32, NumFault>
 ///
 /// `Overflow` exactly where `n` is 0, or the quotient passes ±2147483647.
 pub fn over(a: i32, n: i32) -> Result<i32, NumFault>
-    ensures { result ≡ divided a n }
+    ensures value { result ≡ divided a n }
+    ensures within { IfOk result IsWithin }
 {
     if n == 0 {
         return Err(NumFault::Overflow);
@@ -53,7 +56,8 @@ pub fn over(a: i32, n: i32) -> Result<i32, NumFault>
 ///
 /// `TooBig` exactly where it passes ±2147483647.
 pub fn add_digit(a: i32, radix: i32, digit: i32) -> Result<i32, NumFault>
-    ensures { result ≡ bounded NumFault.TooBig MAX_NUMBER (a *ℤ radix +ℤ digit) }
+    ensures value { result ≡ bounded NumFault.TooBig MAX_NUMBER (a *ℤ radix +ℤ digit) }
+    ensures within { IfOk result IsWithin }
 {
     within(
         NumFault::TooBig,
@@ -72,7 +76,8 @@ fn product(a: i32, b: i32) -> i64
 
 // A value that doesn't pass the bound, or this fault.
 fn within(fault: NumFault, bound: i32, value: i64) -> Result<i32, NumFault>
-    ensures { result ≡ bounded fault bound value }
+    ensures value { result ≡ bounded fault bound value }
+    ensures within { IfOk result IsWithin }
 {
     let bound = i64::from(bound);
     if -bound <= value && value <= bound {

@@ -1,7 +1,7 @@
 //! Glue, and its sums, products and quotients.
 
-ghost use Rattle.std.specs.Prelude.{◌≡◌, ◌*ℤ◌};
-ghost use Rattle.texml_fixed.specs.Arithmetic.{bounded, divided};
+ghost use Rattle.std.specs.Prelude.{◌≡◌, ◌*ℤ◌, IfOk};
+ghost use Rattle.texml_fixed.specs.Arithmetic.{bounded, divided, IsWithin};
 ghost use Rattle.texml_fixed.specs.Glue.{glue_of, together, in_order, amount_sum, stronger, glue_sum, part_by_part, turned, IsGlueWithin};
 
 use crate::arithmetic::{MAX_DIMENSION, add, over, times};
@@ -39,7 +39,8 @@ impl Amount {
     ///
     /// `Overflow` exactly where amounts of one order add to more than ±2147483647.
     pub fn plus(self, other: Amount) -> Result<Amount, NumFault>
-        ensures { result ≡ amount_sum self other }
+        ensures value { result ≡ amount_sum self other }
+        ensures within { IsWithin self.value.0 → IsWithin other.value.0 → IfOk result (λ amount. IsWithin amount.value.0) }
     {
         if self.order == other.order {
             in_order(self.order, add(self.value.0, other.value.0))
@@ -50,7 +51,8 @@ impl Amount {
 
     // The one of two amounts of different orders that stays.
     fn stronger(self, other: Amount) -> Amount
-        ensures { result ≡ stronger self other }
+        ensures value { result ≡ stronger self other }
+        ensures within { IsWithin self.value.0 → IsWithin other.value.0 → IsWithin result.value.0 }
     {
         match (self.value.0, other.value.0) {
             (0, 0) => Amount::ZERO,
@@ -112,7 +114,8 @@ impl Glue {
     ///
     /// `Overflow` exactly where one of the three sums passes ±2147483647.
     pub fn plus(self, other: Glue) -> Result<Glue, NumFault>
-        ensures { result ≡ glue_sum self other }
+        ensures value { result ≡ glue_sum self other }
+        ensures within { IsGlueWithin self → IsGlueWithin other → IfOk result IsGlueWithin }
     {
         together(
             add(self.width.0, other.width.0),
@@ -124,7 +127,8 @@ impl Glue {
     /// The glue with all three parts turned.
     pub fn negated(self) -> Glue
         requires { IsGlueWithin self }
-        ensures { result ≡ turned self }
+        ensures value { result ≡ turned self }
+        ensures within { IsGlueWithin result }
     {
         Glue {
             width: self.width.negated(),
@@ -140,7 +144,8 @@ impl Glue {
     ///
     /// `Overflow` exactly where one of them passes ±1073741823.
     pub fn times(self, n: i32) -> Result<Glue, NumFault>
-        ensures { result ≡ part_by_part (λ part. bounded NumFault.Overflow MAX_DIMENSION (part *ℤ n)) self }
+        ensures value { result ≡ part_by_part (λ part. bounded NumFault.Overflow MAX_DIMENSION (part *ℤ n)) self }
+        ensures within { IfOk result IsGlueWithin }
     {
         together(
             times(self.width.0, n, MAX_DIMENSION),
@@ -155,7 +160,8 @@ impl Glue {
     ///
     /// `Overflow` exactly where `n` is 0, or one of them passes ±2147483647.
     pub fn over(self, n: i32) -> Result<Glue, NumFault>
-        ensures { result ≡ part_by_part (λ part. divided part n) self }
+        ensures value { result ≡ part_by_part (λ part. divided part n) self }
+        ensures within { IfOk result IsGlueWithin }
     {
         together(
             over(self.width.0, n),
@@ -167,7 +173,8 @@ impl Glue {
 
 // An amount of this order, unless its value is a fault.
 fn in_order(order: Order, value: Result<i32, NumFault>) -> Result<Amount, NumFault>
-    ensures { result ≡ in_order order value }
+    ensures value { result ≡ in_order order value }
+    ensures within { IfOk value IsWithin → IfOk result (λ amount. IsWithin amount.value.0) }
 {
     Ok(Amount {
         value: Scaled(value?),
@@ -181,7 +188,8 @@ fn together(
     stretch: Result<Amount, NumFault>,
     shrink: Result<Amount, NumFault>,
 ) -> Result<Glue, NumFault>
-    ensures { result ≡ together width stretch shrink }
+    ensures value { result ≡ together width stretch shrink }
+    ensures within { IfOk width IsWithin → IfOk stretch (λ a. IsWithin a.value.0) → IfOk shrink (λ a. IsWithin a.value.0) → IfOk result IsGlueWithin }
 {
     Ok(Glue::new(Scaled(width?), stretch?, shrink?))
 }

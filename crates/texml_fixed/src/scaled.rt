@@ -16,7 +16,8 @@ impl Scaled {
     /// The dimension with the other sign.
     pub fn negated(self) -> Scaled
         requires { IsWithin self.0 }
-        ensures { result ≡ record { 0 = neg_ℤ self.0 } }
+        ensures value { result ≡ record { 0 = neg_ℤ self.0 } }
+        ensures within { IsWithin result.0 }
     {
         Scaled(-self.0)
     }

@@ -1,6 +1,7 @@
 //! Units of dimensions, and the dimensions that are written in them.
 
-ghost use Rattle.std.specs.Prelude.{◌≡◌, ◌<◌, ◌≤◌, ◌+◌, ◌*◌, ◌/◌, ◌^◌, pos, neg_ℤ, ◌≤ℤ◌, unsigned_abs};
+ghost use Rattle.std.specs.Prelude.{◌≡◌, ◌<◌, ◌≤◌, ◌+◌, ◌*◌, ◌/◌, ◌^◌, pos, neg_ℤ, ◌≤ℤ◌, unsigned_abs, IfOk};
+ghost use Rattle.texml_fixed.specs.Arithmetic.{IsWithin};
 ghost use Rattle.texml_fixed.specs.Units.{ratio, measured, turned};
 ghost use Rattle.texml_fixed.specs.Decimals.{fraction};
 
@@ -36,7 +37,8 @@ pub enum Unit {
 /// `TooLarge` exactly where the amount would be 16384pt or more.
 pub fn of_decimal(int: i32, digits: &[u8], unit: Unit) -> Result<Scaled, NumFault>
     requires { pos 0 ≤ℤ int }
-    ensures { result ≡ measured (unsigned_abs int) digits.now unit }
+    ensures value { result ≡ measured (unsigned_abs int) digits.now unit }
+    ensures within { IfOk result (λ dimension. IsWithin dimension.0) }
 {
     let whole = u64::from(int.unsigned_abs());
     let amount = match unit {
@@ -57,7 +59,7 @@ fn converted(whole: u64, fraction: u64, ratio: (u64, u64)) -> u64
     requires low { 0 < ratio.1 }
     requires high { ratio.1 ≤ 65536 }
     requires bounded { ratio.0 ≤ 32768 * ratio.1 }
-    ensures value { result ≡ (65536 * whole + fraction) * ratio.0 / ratio.1 }
+    ensures { result ≡ (65536 * whole + fraction) * ratio.0 / ratio.1 }
 {
     let (numerator, denominator) = ratio;
     let product = whole * numerator;
@@ -93,7 +95,8 @@ fn ratio(unit: Unit) -> (u64, u64)
 // So many scaled points, with the sign of a unit.
 fn turned(unit: Unit, amount: i32) -> i32
     requires { pos 0 ≤ℤ amount }
-    ensures { result ≡ turned unit (unsigned_abs amount) }
+    ensures value { result ≡ turned unit (unsigned_abs amount) }
+    ensures within { IsWithin result }
 {
     match unit {
         Unit::Own(Scaled(own)) if own < 0 => -amount,

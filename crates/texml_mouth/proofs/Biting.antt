@@ -1,10 +1,15 @@
 -- What a line gives, by the first character as it is looked at.
-use Rattle.std.proofs.Common.{◌≡◌, ℕ, List, [], ◌∷◌, refl, ap, ◌∙◌, rules, false, ◌==◌}
+use Rattle.std.proofs.Common.{◌≡◌, ℕ, Bool, true, cond, List, [], ◌∷◌, Option, Result, Err, refl, sym, ap, subst, ◌∙◌, rules, false, ◌==◌}
 use Rattle.std.proofs.lemmas.Bool.Decides.{nat_tests}
 use Rattle.texml_token.specs.Token.{Named}
 use Rattle.texml_mouth.specs.declared.State.TheVariants.{SkippingBlanks}
 use Rattle.texml_mouth.specs.Looked.{look, settled}
-use Rattle.texml_mouth.specs.Mouth.{Spot, Dry, bite, bites, name, word, no_word, word_from, name_from, state_behind, gives}
+use Rattle.texml_token.specs.Numbers.{Table}
+use Rattle.texml_token.specs.declared.tokens.Token.{Token as TokenCode}
+use Rattle.texml_mouth.specs.declared.MouthFault.{MouthFault}
+use Rattle.texml_mouth.specs.declared.MouthFault.TheVariants.{NoMemory}
+use Rattle.texml_mouth.specs.Seen.{GivesName, Bitten, answer_at}
+use Rattle.texml_mouth.specs.Mouth.{Spot, Bite, Dry, bite, bites, name, word, no_word, word_from, name_from, state_behind, gives}
 use Rattle.texml_mouth.proofs.Looking.{look-front, at_front}
 
 -- a fold at a text whose front is known
@@ -48,5 +53,19 @@ word_end cats text is = look_end cats (no_word []) (word_from cats) text is
 
 pub name_end : (cats : ℕ → ℕ) (text : List ℕ) → settled cats text ≡ [] → name cats text ≡ gives (Named []) SkippingBlanks []
 name_end cats text is = look_end cats (gives (Named []) SkippingBlanks []) (λ d rest onward. name_from cats (word cats text) d rest) text is
+
+-- a name is given, where there is memory
+pub name_gives : (cats : ℕ → ℕ) (text : List ℕ) → GivesName (name cats text)
+name_gives cats text = by (settled cats text) refl
+  where
+    either : (b : Bool) (letters behind tail : List ℕ) (c : ℕ) → GivesName (cond b (gives (Named letters) SkippingBlanks behind) (gives (Named (c ∷ [])) (state_behind (cats c)) tail))
+    either true letters behind tail c = tt
+    either false letters behind tail c = tt
+    by : (list : List ℕ) → settled cats text ≡ list → GivesName (name cats text)
+    by [] is = subst GivesName (sym (name_end cats text is)) tt
+    by (c ∷ tail) is = subst GivesName (sym (at_name cats text c tail is)) (either (cats c == 11) (word cats text).letters (word cats text).behind tail c)
+
+pub no_memory : (b : Bite) (texts : Table) (r : Result (Option TokenCode) MouthFault) (spot : Spot) → r ≡ Err NoMemory → GivesName b → Bitten b (answer_at texts r) spot
+no_memory b texts r spot is h = subst (λ x. Bitten b (answer_at texts x) spot) (sym is) h
 
 pub ruleset biting = (bites_step, bites_end)

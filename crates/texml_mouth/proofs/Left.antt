@@ -1,7 +1,7 @@
 -- The characters left.
 use Rattle.std.proofs.Common.{◌≡◌, ◌≤◌, ◌<◌, ◌+◌, ℕ, List, length, drop, length-drop, Option, None, sym, subst, arith}
 use Rattle.std.proofs.lemmas.List.{drop-drop}
-use Rattle.texml_mouth.specs.Seen.{left}
+use Rattle.texml_mouth.specs.Inside.{left}
 
 pub some_left : (front : Option ℕ) (line : List ℕ) (place : ℕ) → front ≡ None → 1 ≤ length (left front line place) → place < length line
 some_left front line place none some =

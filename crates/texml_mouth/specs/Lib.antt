@@ -1,3 +1,4 @@
 pub mod Looked
 pub mod Mouth
 pub mod Seen
+pub mod Inside

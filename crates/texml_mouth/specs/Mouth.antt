@@ -1,6 +1,6 @@
 -- The tokens of a line (The TeXbook, chapters 7 and 8).
-use Rattle.std.specs.Prelude.{ℕ, List, [], ◌∷◌, if◌then◌else◌, ◌==◌, codes}
-use Rattle.texml_token.specs.Token.{Token, Char, Active, Named}
+use Rattle.std.specs.Prelude.{ℕ, List, [], ◌∷◌, if◌then◌else◌, ◌==◌}
+use Rattle.texml_token.specs.Token.{Token, Char, Active, Named, paragraph}
 use Rattle.texml_token.specs.declared.category.TheConstants.{ESCAPE, END_OF_LINE, IGNORED, SPACE, LETTER, ACTIVE, COMMENT, INVALID}
 use Rattle.texml_mouth.specs.declared.State.{State}
 use Rattle.texml_mouth.specs.declared.State.TheVariants.{NewLine, MidLine, SkippingBlanks}
@@ -23,10 +23,6 @@ gives t state tail = Gives t (record { state = state; tail = tail })
 -- a space token
 abbrev pub space : Token
 space = Char 32 SPACE
-
--- the name of a new paragraph
-abbrev pub paragraph : Token
-paragraph = Named (codes "par")
 
 -- letters, and the text behind them
 pub record Word : Type 0 where

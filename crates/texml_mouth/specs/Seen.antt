@@ -1,9 +1,7 @@
 -- What is seen of a mouth, and what its answers say.
-use Rattle.std.specs.Prelude.{◌≡◌, ◌≤◌, ℕ, List, [], ◌++◌, length, drop, Option, Some, None, Result, Ok, Err, IfSome}
-use Rattle.std.specs.Option.{option_to_list}
-use Rattle.std.specs.List.{All}
+use Rattle.std.specs.Prelude.{◌≡◌, ℕ, [], Option, Some, None, Result, Ok, Err}
 use Rattle.std.specs.Char.{IsScalar}
-use Rattle.texml_token.specs.Token.{Token, Char, Active, Param, Named, Fixed}
+use Rattle.texml_token.specs.Token.{Token, Named}
 use Rattle.texml_token.specs.Numbers.{Table, with_text, token_at, TokenWithin}
 use Rattle.texml_token.specs.declared.tokens.Token.{Token as TokenCode}
 use Rattle.texml_mouth.specs.declared.MouthFault.{MouthFault}
@@ -15,21 +13,10 @@ pub record Seen : Type 0 where
   pub spot : Spot
   pub fault : Option MouthFault
 
--- the characters left: perhaps one that was settled, and those of the line from a place on
-abbrev pub left : Option ℕ → List ℕ → ℕ → List ℕ
-left front line place = option_to_list front ++ drop place line
-
 -- a character that may not stand there is a character
 abbrev pub IsFault : MouthFault → Type 0
 IsFault (Invalid c) = IsScalar c
 IsFault NoMemory = Unit {0}
-
--- the place is in the line, and there are characters alone
-pub record IsSound (front : Option ℕ) (line : List ℕ) (place : ℕ) (fault : Option MouthFault) : Type 0 where
-  pub within : place ≤ length line
-  pub settled : IfSome front IsScalar
-  pub scalars : All IsScalar line
-  pub kept : IfSome fault IsFault
 
 -- an answer with its token as the definitions see it
 abbrev pub answer_at : Table → Result (Option TokenCode) MouthFault → Result (Option Token) MouthFault
@@ -37,22 +24,22 @@ answer_at texts (Ok (Some t)) = Ok (Some (token_at texts t))
 answer_at texts (Ok None) = Ok None
 answer_at texts (Err e) = Err e
 
--- what an answer says of what the line gives; the spot is the one behind it
+-- the line gives a name
+abbrev pub GivesName : Bite → Type 0
+GivesName (Gives (Named text) spot) = Unit {0}
+GivesName b = ⊥
+
+-- what an answer says of what the line gives; the spot is the one behind it. Only a name takes memory
 abbrev pub Bitten : Bite → Result (Option Token) MouthFault → Spot → Type 0
 Bitten b (Ok (Some t)) spot = b ≡ Gives t spot
 Bitten b (Ok None) spot = (b ≡ Dry) × (spot.tail ≡ [])
 Bitten b (Err (Invalid c)) spot = b ≡ Bad c
-Bitten b (Err NoMemory) spot = Unit {0}
+Bitten b (Err NoMemory) spot = GivesName b
 
 -- the table of names behind an answer: a name that was given is in it
 abbrev pub table_behind : Table → Result (Option Token) MouthFault → Table
-table_behind texts (Ok (Some (Char c category))) = texts
-table_behind texts (Ok (Some (Active c))) = texts
-table_behind texts (Ok (Some (Param n))) = texts
 table_behind texts (Ok (Some (Named text))) = with_text texts text
-table_behind texts (Ok (Some Fixed)) = texts
-table_behind texts (Ok None) = texts
-table_behind texts (Err e) = texts
+table_behind texts answer = texts
 
 -- so many names give the token of an answer
 abbrev pub AnswerWithin : ℕ → Result (Option TokenCode) MouthFault → Type 0

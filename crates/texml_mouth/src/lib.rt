@@ -78,7 +78,8 @@ pub struct Mouth {
 }
 
 impl Model for Mouth {
-    ghost use Rattle.texml_mouth.specs.Seen.{Seen, left, IsSound};
+    ghost use Rattle.texml_mouth.specs.Seen.{Seen};
+    ghost use Rattle.texml_mouth.specs.Inside.{left, IsSound};
 
     ghost Value = { Seen };
 
@@ -137,7 +138,7 @@ impl Mouth {
             Some(fault) => Err(fault),
             None => self.bite(alloc, codes, names),
         };
-        // The count brings with it that the texts of the table are numbered.
+        // The count brings with it that the texts of the table are numbered, where no name was interned.
         let _given = names.given();
         if let Err(fault) = answer {
             self.fault = Some(fault);
@@ -534,6 +535,7 @@ mod tests {
                     write_code(into, *code)?;
                 }
             }
+            Token::Param(_) => unreachable!(),
         }
         Ok(())
     }

@@ -1,3 +1,5 @@
+//! What no clause says: that the calls answer with ample memory, and that groups keep no copies.
+
 use super::*;
 use std::test::Fail;
 use texml_base::Steps;
@@ -7,13 +9,12 @@ use texml_token::{Line, Names, Token, Tokens};
 fn local_value_ends_with_its_group(rt: HostRuntime) -> Result<(), Fail> {
     let mut steps = Steps::new();
     let mut scope = Scope::new(rt.alloc());
-    let key = Key::Active(126);
     scope.begin(GroupKind::Brace)?;
-    scope.set(key, Value::Means(Meaning::Builtin(28)), &mut steps)?;
+    scope.set(Key::Cat(64), Value::Number(11), &mut steps)?;
     scope.after_group(Token::Active(2))?;
     let after = scope.end(GroupKind::Brace, &mut steps)?;
     assert_eq!(rt; after.as_slice(), [Token::Active(2)].as_slice());
-    assert_eq!(rt; scope.get(&key)?, Value::Means(Meaning::Undefined));
+    assert_eq!(rt; scope.number(&Key::Cat(64)), Some(12));
     Ok(())
 }
 
@@ -27,15 +28,39 @@ fn global_value_stays(rt: HostRuntime) -> Result<(), Fail> {
     assert_eq!(rt; scope.inner(), Some(GroupKind::Begin));
     scope.end(GroupKind::Begin, &mut steps)?;
     assert_eq!(rt; scope.get(&key)?, Value::Means(Meaning::Builtin(29)));
-    assert_eq!(rt; scope.number(&key), None);
+    Ok(())
+}
+
+// A body that copies its table for each group would hold 2,000,000,000 entries here.
+#[test]
+fn many_groups_over_many_keys(rt: HostRuntime) -> Result<(), Fail> {
+    let mut steps = Steps::new();
+    let mut scope = Scope::new(rt.alloc());
+    for code in 65536..85536 {
+        scope.set(Key::Lower(code), Value::Number(1), &mut steps)?;
+    }
+    for i in 1..100001u32 {
+        scope.begin(GroupKind::Brace)?;
+        scope.set(Key::Count(1), Value::Number(i as i32), &mut steps)?;
+    }
+    let mut ending = Steps::new();
+    for i in (0..100000u32).rev() {
+        scope.end(GroupKind::Brace, &mut ending)?;
+        assert_eq!(rt; scope.number(&Key::Count(1)), Some(i as i32));
+    }
+    assert_eq!(rt; ending.taken(), 100000);
     Ok(())
 }
 
 #[test]
-fn macros_are_copied(rt: HostRuntime) -> Result<(), Fail> {
-    let mut body = Tokens::new(rt.alloc());
-    body.push(Token::Char(97, 11))?;
-    let value = Value::Means(Meaning::Macro(Macro { body }));
+fn equal_macros_are_the_same(rt: HostRuntime) -> Result<(), Fail> {
+    let alloc = rt.alloc();
+    let body = Tokens::from_slice(alloc, &[Token::Char(97, 11)])?;
+    let one = Meaning::Macro(plain_macro(alloc, body.clone()?));
+    let other = Meaning::Macro(plain_macro(alloc, body));
+    assert_eq!(rt; same_meaning(&one, &other), true);
+    assert_eq!(rt; same_meaning(&one, &Meaning::Undefined), false);
+    let value = Value::Means(one);
     assert_eq!(rt; copied(&value)?, value);
     Ok(())
 }
@@ -45,7 +70,7 @@ fn builtins_have_their_places(rt: HostRuntime) {
     assert_eq!(rt; builtin(&[114, 101, 108, 97, 120]), Some(28), "relax");
     assert_eq!(rt; builtin(&[100, 101, 102]), Some(29), "def");
     assert_eq!(rt; builtin(&[112, 97, 114]), Some(74), "par");
-    assert_eq!(rt; builtin(&[108, 101, 116]), None, "let is not built");
+    assert_eq!(rt; builtin(&[102, 111, 111]), None, "foo is none");
 }
 
 #[test]
@@ -55,14 +80,8 @@ fn run_starts_with_the_builtins(rt: HostRuntime) -> Result<(), Fail> {
     let scope = first_scope(alloc, &mut names)?;
     let par = names.intern(&Line::from_slice(alloc, &[112, 97, 114])?)?;
     assert_eq!(rt;
-        scope.get(&Key::Name(par))?,
-        Value::Means(Meaning::Builtin(74))
-    );
-    let other = names.intern(&Line::from_slice(alloc, &[108, 101, 116])?)?;
-    assert_eq!(rt;
-        scope.get(&Key::Name(other))?,
-        Value::Means(Meaning::Undefined),
-        "let is not built"
+        meaning_in(scope.get(&Key::Name(par))?),
+        Meaning::Builtin(74)
     );
     Ok(())
 }

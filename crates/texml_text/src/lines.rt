@@ -1,6 +1,6 @@
 //! The lines of a text.
 ghost use Rattle.std.specs.Prelude.{◌≡◌, ◌∷◌, ◌<◌, ◌-◌, ◌==◌, [], length, drop, position, MatchOption, IfSome, IfOk};
-ghost use Rattle.texml_text.specs.Lines.{lines, loaded, trim_end, without_mark};
+ghost use Rattle.texml_text.specs.Lines.{line_feed, lines, loaded, trim_end, without_mark};
 ghost use Rattle.std.specs.Char.{IsScalar};
 ghost use Rattle.std.specs.List.{All};
 ghost use Rattle.std.specs.Str.{chars};
@@ -28,7 +28,7 @@ pub fn next_line(text: &[char]) -> Option<(&[char], &[char])>
 
 // Where the first line feed stands.
 fn feed_at(text: &[char]) -> Option<usize>
-    ensures { result ≡ position (λ c. c == 10) text.now }
+    ensures { result ≡ position (λ c. c == line_feed) text.now }
 {
     text.iter().position(|c| *c == '\n')
 }

@@ -1,4 +1,4 @@
-//! A list of byte strings.
+//! A list of lists of bytes.
 
 ghost use Rattle.std.specs.Prelude.{◌≡◌, [], ◌∷◌, ◌++◌, OnOk, OnErr};
 
@@ -6,7 +6,7 @@ use crate::bytes::Bytes;
 use std::alloc::{AllocError, Global};
 use std::marker::Model;
 
-/// A list of byte strings.
+/// A list of lists of bytes.
 #[derive(Debug, Drop)]
 pub struct ByteList {
     items: Vec<Bytes>,
@@ -30,7 +30,7 @@ impl ByteList {
         }
     }
 
-    /// Appends a byte string.
+    /// Appends a list of bytes.
     ///
     /// # Errors
     ///
@@ -43,10 +43,20 @@ impl ByteList {
         Ok(())
     }
 
-    /// The byte strings, the first in front.
+    /// The lists of bytes, the first in front.
     pub fn as_slice(&self) -> &[Bytes]
         ensures { result.now ≡ self.now }
     {
         self.items.as_slice()
+    }
+}
+
+impl Clone for ByteList {
+    ghost is_clone = { λ list copy. copy ≡ list };
+
+    fn clone(&self) -> Result<ByteList, AllocError> {
+        Ok(ByteList {
+            items: self.items.clone()?,
+        })
     }
 }

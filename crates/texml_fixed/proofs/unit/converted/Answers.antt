@@ -14,4 +14,4 @@ overflow_add-result c =
     record { fits = omega (arith, div-le_self (c.args.fraction * c.args.ratio.0 + 65536 * (c.args.whole * c.args.ratio.0 % c.args.ratio.1)) c.args.ratio.1) }
 
 pub returns : goal.returns
-returns c = record { value = sym (converted_in_steps 65536 c.args.whole c.args.fraction c.args.ratio.0 c.args.ratio.1 c.requires.low) }
+returns c = sym (converted_in_steps 65536 c.args.whole c.args.fraction c.args.ratio.0 c.args.ratio.1 c.requires.low)

@@ -1,5 +1,6 @@
 use Rattle.std.proofs.Common.{◌≤◌, arith, length, sym, ap, subst}
-use Rattle.texml_mouth.specs.Seen.{Seen, left}
+use Rattle.texml_mouth.specs.Seen.{Seen}
+use Rattle.texml_mouth.specs.Inside.{left}
 use Rattle.texml_mouth.proofs.Left.{some_left, left_one}
 use Rattle.texml_mouth.proofs.Mouth.pass.Goals as goal
 

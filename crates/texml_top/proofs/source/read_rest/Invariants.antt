@@ -1,4 +1,4 @@
-use Rattle.std.proofs.Common.{◌≡◌, ◌≤◌, ◌++◌, IsTrue}
+use Rattle.std.proofs.Common.{◌≡◌, ◌++◌, IsTrue}
 use Rattle.texml_top.specs.Source.{SameOutside}
 use Rattle.texml_top.proofs.source.read_rest.Given as goal
 

@@ -1,0 +1,19 @@
+use Rattle.std.proofs.Common.{refl, ◌∙◌}
+use Rattle.std.proofs.lemmas.Bool.{false_from_ne_true, eq-eqb, ne_eqb}
+use Rattle.std.proofs.lemmas.Str.{is_utf8-from_IsUtf8, IsUtf8-from_is_utf8}
+use Rattle.std.specs.Str.{is_utf8}
+use Rattle.texml.proofs.words.text_of.Goals as goal
+
+pub returns-in_ok-from_str-in-Ok : goal.returns-in_ok-from_str-in-Ok
+returns-in_ok-from_str-in-Ok c =
+    (is_utf8-from_IsUtf8 c.args.word.now c.in-Ok.ensures.cases.1, c.in_ok-from_str-in-Ok.ensures.ok ∙ c.in-Ok.ensures.cases.0)
+
+pub returns-in-Err : goal.returns-in-Err
+returns-in-Err c =
+    let broken = false_from_ne_true (is_utf8 c.args.word.now) (λ test. c.in-Err.ensures.cases.0 (IsUtf8-from_is_utf8 c.args.word.now test)) in
+    (broken, rw (eq-eqb c.args.at 0 c.if-at-eq0.true) refl)
+
+pub returns-in-Err-2 : goal.returns-in-Err-2
+returns-in-Err-2 c =
+    let broken = false_from_ne_true (is_utf8 c.args.word.now) (λ test. c.in-Err-2.ensures.cases.0 (IsUtf8-from_is_utf8 c.args.word.now test)) in
+    (broken, rw (ne_eqb c.args.at 0 c.if-at-eq0.false) refl)

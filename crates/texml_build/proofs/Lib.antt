@@ -1,0 +1,6 @@
+pub mod Trims
+pub mod Strips
+pub mod Follow
+pub mod Paths
+pub mod Kids
+pub mod Lawful

@@ -1,0 +1,6 @@
+pub mod Grouping
+pub mod Delimiting
+pub mod Feeding
+pub mod Beginning
+pub mod Growing
+pub mod Rows
