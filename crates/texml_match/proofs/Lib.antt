@@ -4,3 +4,4 @@ pub mod Feeding
 pub mod Beginning
 pub mod Growing
 pub mod Rows
+pub mod Building

@@ -15,3 +15,6 @@ mod shape;
 pub use arg_match::{ArgMatch, Fed, MatchFault};
 pub use args::Args;
 pub use shape::Shape;
+
+#[cfg(test)]
+mod tests;
