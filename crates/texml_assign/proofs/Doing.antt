@@ -103,6 +103,15 @@ pub keeps_same : {B : Type 0} (r : Result B Stop) (h i : Held) → Sound h → O
 keeps_same (Ok v) h i s e = subst (Kept h) (sym e) (kept_itself h s)
 keeps_same (Err e) h i s k = tt
 
+-- of another answer
+pub kept_of : {A B : Type 0} (f : A → B) (r : Result A Stop) (k : Option Stop) → k ≡ stop_after r → k ≡ stop_after (ok_at f r)
+kept_of f (Ok v) k e = e
+kept_of f (Err s) k e = e
+
+pub keeps_of : {A B : Type 0} (f : A → B) (r : Result A Stop) (P : Type 0) → OnOk r P → OnOk (ok_at f r) P
+keeps_of f (Ok v) P p = p
+keeps_of f (Err s) P p = tt
+
 module _ {T : Type 0} (hear part : T → Record → T → Type 0) where
   -- a call, and what follows it
   pub does_then_sure : {A B : Type 0} (r : ByDepth A) (f : A → ByDepth B) → Lawful r → ((v : A) → Sure (f v)) → (v : A) (result : Result B Stop) (old mid new : Held) (x y z : Outside) (a b c : T)

@@ -11,8 +11,9 @@ use Rattle.texml_watch.proofs.Hearing.{Wrote-trace, Wrote-within, Wrote-front, W
 use Rattle.texml_expand.specs.declared.stop.Stop.{Stop}
 use Rattle.texml_expand.specs.declared.stop.Stop.TheVariants as stop
 use Rattle.texml_expand.specs.State.{State, End, Answer, Tex, Limit, Done, Ended, added}
-use Rattle.texml_expand.specs.Held.{Held, state_of}
-use Rattle.texml_expand.specs.Contract.{Gives, Because, outside}
+use Rattle.texml_expand.specs.Held.{Held, state_of, IsAtLimit}
+use Rattle.texml_expand.proofs.Order.{IsWithin}
+use Rattle.texml_expand.specs.Contract.{DecidesOn, ReadsBecause, TellsBecause}
 use Rattle.texml_expand.specs.Hearing.{HeardLast, MeetsEnd, MeetsFirst, MeetsCut, MeetsPart, Follows}
 use Rattle.texml_top.specs.Request.{Request, asked}
 use Rattle.texml_top.specs.declared.request.Command.{Command}
@@ -21,14 +22,14 @@ use Rattle.texml_top.specs.Digest.{digests}
 use Rattle.texml_top.specs.Page.{page}
 use Rattle.texml_top.specs.Outcome.{Outcome, refused, text_of, status_of, OfOutcome, FromState}
 use Rattle.texml_top.specs.Start.{IsFirst, Starts}
-use Rattle.texml_top.specs.Run.{stopped, EndsAs, WrotePart, MayEnd, HasRunCause, WritesPage, PageAsked, WholeLines, LinesBy, LinesAsked}
+use Rattle.texml_top.specs.Run.{stopped, EndsAs, WroteFirst, MayEnd, FilesBlamed, SinkBlamed, LimitIs, FitsWords, TouchesNothing, WritesPage, PageAsked, WholeLines, LinesBy, LinesAsked}
 use Rattle.texml_top.specs.declared.material.Material.{Material}
 use Rattle.texml_top.specs.declared.status.Status.{Status}
 use Rattle.texml_top.specs.declared.status.Status.TheVariants as status
 use Rattle.texml_top.proofs.Outcomes.{outcome_by, is_by, expand_bytes, expand_records, is_from, of_any, from_any, of_fault, of_state}
 
 -- nothing was written
-pub none_written : (bytes : List ℕ) (ink : Ink) → WrotePart bytes ink ink
+pub none_written : (bytes : List ℕ) (ink : Ink) → WroteFirst bytes ink ink
 none_written bytes ink = (0, sym (inked-nil ink))
 
 pub refused_ends : (s : Status) (ink : Ink) → EndsAs s (refused s) ink ink
@@ -53,27 +54,27 @@ module _ {T : Type 0} (hear part : T → Record → T → Type 0) where
       let all : Outcome = record { status = status.Done; bytes = page v; records = g.meets.gains.records } in
       record { all = all; is = is_from Convert s g.answer (Done v new g.meets.gains) all g.given g.meets.is refl; has = h all refl refl }
 
-  convert_ends : (e : End) (s : State) (a b : T) (ink : Ink) (answer : Answer (List Material)) → Gives (digests [] s) answer → MeetsEnd hear part answer e a b
+  convert_ends : (e : End) (s : State) (a b : T) (ink : Ink) (answer : Answer (List Material)) → DecidesOn (digests [] s) answer → MeetsEnd hear part answer e a b
       → FromState Convert s (λ all. EndsAs (status_of e) all ink ink)
   convert_ends e s a b ink answer g m =
       let all : Outcome = record { status = status_of e; bytes = []; records = m.gains.records } in
       record { all = all; is = is_from Convert s answer (Ended e m.gains) all g m.is refl; has = (refl, sym (inked-nil ink)) }
 
   -- nobody is told, so that telling can't fail
-  pub convert_stops : (e : Stop) (s new : State) (a b : T) (ink : Ink) (reads reads' : ℕ) → Because {A = List Material} (Err e) (outside reads 0) (outside reads' 0) → Follows hear part (digests [] s) (Err e) new a b
+  pub convert_stops : (e : Stop) (s new : State) (a b : T) (ink : Ink) → IsWithin s → TellsBecause {A = List Material} (Err e) 0 0 → Follows hear part (digests [] s) (Err e) new a b
       → FromState Convert s (λ all. MayEnd (stopped e) all ink ink)
-  convert_stops (stop.Tex f) s new a b ink reads reads' h g = convert_ends (Tex f) s a b ink g.answer g.given g.meets
-  convert_stops (stop.Limit n) s new a b ink reads reads' h g = convert_ends (Limit n) s a b ink g.answer g.given g.meets
-  convert_stops stop.ReadFailed s new a b ink reads reads' h g = from_any Convert s _ (λ all. none_written all.bytes ink)
-  convert_stops stop.TellFailed s new a b ink reads reads' h g = absurd (omega (arith, h))
-  convert_stops stop.NoMemory s new a b ink reads reads' h g = from_any Convert s _ (λ all. none_written all.bytes ink)
+  convert_stops (stop.Tex f) s new a b ink w h g = convert_ends (Tex f) s a b ink g.answer g.given g.meets
+  convert_stops (stop.Limit n) s new a b ink w h g = convert_ends (Limit n) s a b ink g.answer g.given g.meets
+  convert_stops stop.ReadFailed s new a b ink w h g = from_any Convert s w _ (λ all. none_written all.bytes ink)
+  convert_stops stop.TellFailed s new a b ink w h g = absurd (omega (arith, h))
+  convert_stops stop.NoMemory s new a b ink w h g = from_any Convert s w _ (λ all. none_written all.bytes ink)
 
-pub silent_page : (e : Stop) (all : Outcome) (reads reads' : ℕ) → Because {A = List Material} (Err e) (outside reads 0) (outside reads' 0) → WritesPage Convert (stopped e) all
-silent_page (stop.Tex f) all reads reads' h = tt
-silent_page (stop.Limit n) all reads reads' h = tt
-silent_page stop.ReadFailed all reads reads' h = tt
-silent_page stop.TellFailed all reads reads' h = absurd (omega (arith, h))
-silent_page stop.NoMemory all reads reads' h = tt
+pub silent_page : (e : Stop) (all : Outcome) → TellsBecause {A = List Material} (Err e) 0 0 → WritesPage Convert (stopped e) all
+silent_page (stop.Tex f) all h = tt
+silent_page (stop.Limit n) all h = tt
+silent_page stop.ReadFailed all h = tt
+silent_page stop.TellFailed all h = absurd (omega (arith, h))
+silent_page stop.NoMemory all h = tt
 
 -- a line has bytes
 within_some : (xs : List ℕ) (c : ℕ) (rest : List ℕ) → xs ++ c ∷ rest ≢ []
@@ -96,17 +97,17 @@ module _ {T : Type 0} (lent : T → Lent) where
       let all : Outcome = record { status = status.Done; bytes = trace g.meets.gains.records; records = g.meets.gains.records } in
       record { all = all; is = is_from Expand s g.answer (Done v new g.meets.gains) all g.given g.meets.is refl; has = (refl, (Wrote-trace lent a b g.meets.gains.records g.meets.heard).ink) }
 
-  expand_ends : (e : End) (s : State) (a b : T) (answer : Answer (List Material)) → Gives (digests [] s) answer → MeetsEnd Hears HearsPart answer e a b
+  expand_ends : (e : End) (s : State) (a b : T) (answer : Answer (List Material)) → DecidesOn (digests [] s) answer → MeetsEnd Hears HearsPart answer e a b
       → FromState Expand s (λ all. EndsAs (status_of e) all (lent a).ink (lent b).ink)
   expand_ends e s a b answer g m =
       let all : Outcome = record { status = status_of e; bytes = trace m.gains.records; records = m.gains.records } in
       record { all = all; is = is_from Expand s answer (Ended e m.gains) all g m.is refl; has = (refl, (Wrote-trace lent a b m.gains.records m.heard).ink) }
 
-  part_written : (rows more : List Record) (last : Option Record) (a b : T) → HeardLast Hears HearsPart rows last a b → WrotePart (trace (rows ++ option_to_list last ++ more)) (lent a).ink (lent b).ink
+  part_written : (rows more : List Record) (last : Option Record) (a b : T) → HeardLast Hears HearsPart rows last a b → WroteFirst (trace (rows ++ option_to_list last ++ more)) (lent a).ink (lent b).ink
   part_written rows more None a b h =
-      subst (λ l. WrotePart (trace (l ++ more)) (lent a).ink (lent b).ink) (sym (append-nil rows)) (Wrote-front (lent a) (lent b) rows more (Wrote-trace lent a b rows h))
+      subst (λ l. WroteFirst (trace (l ++ more)) (lent a).ink (lent b).ink) (sym (append-nil rows)) (Wrote-front (lent a) (lent b) rows more (Wrote-trace lent a b rows h))
   part_written rows more (Some last) a b h =
-      subst (λ l. WrotePart (trace l) (lent a).ink (lent b).ink) (sym (append_assoc rows (last ∷ []) more)) (WroteWithin-front (lent a) (lent b) rows last more (Wrote-within lent a h.0 b rows last h.1 h.2))
+      subst (λ l. WroteFirst (trace l) (lent a).ink (lent b).ink) (sym (append_assoc rows (last ∷ []) more)) (WroteWithin-front (lent a) (lent b) rows last more (Wrote-within lent a h.0 b rows last h.1 h.2))
 
   part_whole : (rows : List Record) (last : Option Record) (a b : T) → HeardLast Hears HearsPart rows last a b → (Rose (lent a).faults (lent b).faults → ⊥) → (lent b).ink ≡ inked (lent a).ink (trace rows)
   part_whole rows None a b h calm = (Wrote-trace lent a b rows h).ink
@@ -138,7 +139,7 @@ module _ {T : Type 0} (lent : T → Lent) where
   expand_loan (Err stop.NoMemory) s new a b g = part_loan g.meets.rows g.meets.last a b g.meets.heard
 
   -- what holds of the trace holds of the outcome's bytes
-  by_trace : (s : State) (answer : Answer (List Material)) (Has : List ℕ → Type 0) → Gives (digests [] s) answer → Has (trace (added answer).records) → FromState Expand s (λ all. Has all.bytes)
+  by_trace : (s : State) (answer : Answer (List Material)) (Has : List ℕ → Type 0) → DecidesOn (digests [] s) answer → Has (trace (added answer).records) → FromState Expand s (λ all. Has all.bytes)
   by_trace s answer Has g h =
       record {
         all = outcome_by Expand answer;
@@ -146,17 +147,17 @@ module _ {T : Type 0} (lent : T → Lent) where
         has = subst Has (sym (expand_bytes answer g.decided)) h;
       }
 
-  trace_part : (answer : Answer (List Material)) (a b : T) → MeetsPart Hears HearsPart answer a b → WrotePart (trace (added answer).records) (lent a).ink (lent b).ink
-  trace_part answer a b m = subst (λ l. WrotePart (trace l) (lent a).ink (lent b).ink) (sym m.is) (part_written m.rows m.more m.last a b m.heard)
+  trace_part : (answer : Answer (List Material)) (a b : T) → MeetsPart Hears HearsPart answer a b → WroteFirst (trace (added answer).records) (lent a).ink (lent b).ink
+  trace_part answer a b m = subst (λ l. WroteFirst (trace l) (lent a).ink (lent b).ink) (sym m.is) (part_written m.rows m.more m.last a b m.heard)
 
   -- the outcome, where its trace was written in part
-  expand_part : (s : State) (a b : T) (answer : Answer (List Material)) → Gives (digests [] s) answer → MeetsPart Hears HearsPart answer a b → FromState Expand s (λ all. WrotePart all.bytes (lent a).ink (lent b).ink)
-  expand_part s a b answer g m = by_trace s answer (λ bytes. WrotePart bytes (lent a).ink (lent b).ink) g (trace_part answer a b m)
+  expand_part : (s : State) (a b : T) (answer : Answer (List Material)) → DecidesOn (digests [] s) answer → MeetsPart Hears HearsPart answer a b → FromState Expand s (λ all. WroteFirst all.bytes (lent a).ink (lent b).ink)
+  expand_part s a b answer g m = by_trace s answer (λ bytes. WroteFirst bytes (lent a).ink (lent b).ink) g (trace_part answer a b m)
 
   -- the sink failed in a line
-  expand_cut : (s : State) (a b : T) (answer : Answer (List Material)) → Gives (digests [] s) answer → MeetsCut Hears HearsPart answer a b → FromState Expand s (λ all. MayEnd status.WriteFault all (lent a).ink (lent b).ink)
+  expand_cut : (s : State) (a b : T) (answer : Answer (List Material)) → DecidesOn (digests [] s) answer → MeetsCut Hears HearsPart answer a b → FromState Expand s (λ all. MayEnd status.WriteFault all (lent a).ink (lent b).ink)
   expand_cut s a b answer g m =
-      by_trace s answer (λ bytes. (bytes ≢ []) × WrotePart bytes (lent a).ink (lent b).ink) g
+      by_trace s answer (λ bytes. (bytes ≢ []) × WroteFirst bytes (lent a).ink (lent b).ink) g
       (λ none. trace_some m.rows m.more m.last (sym (ap trace m.is) ∙ none), trace_part answer a b (cut_part answer a b m))
 
   pub expand_stops : (e : Stop) (s new : State) (a b : T) → Follows Hears HearsPart (digests [] s) (Err e) new a b → FromState Expand s (λ all. MayEnd (stopped e) all (lent a).ink (lent b).ink)
@@ -167,7 +168,7 @@ module _ {T : Type 0} (lent : T → Lent) where
   expand_stops stop.NoMemory s new a b g = expand_part s a b g.answer g.given g.meets
 
   -- whole lines
-  lines_all : (s : State) (answer : Answer (List Material)) (rows more : List Record) (a b : T) → Gives (digests [] s) answer → (added answer).records ≡ rows ++ more
+  lines_all : (s : State) (answer : Answer (List Material)) (rows more : List Record) (a b : T) → DecidesOn (digests [] s) answer → (added answer).records ≡ rows ++ more
       → (lent b).ink ≡ inked (lent a).ink (trace rows) → FromState Expand s (λ all. WholeLines all (lent a).ink (lent b).ink)
   lines_all s answer rows more a b g e ink =
       record {
@@ -176,7 +177,7 @@ module _ {T : Type 0} (lent : T → Lent) where
         has = (rows, more, expand_records answer g.decided ∙ e, ink);
       }
 
-  lines_part : (s : State) (a b : T) (answer : Answer (List Material)) → Gives (digests [] s) answer → MeetsPart Hears HearsPart answer a b → (Rose (lent a).faults (lent b).faults → ⊥)
+  lines_part : (s : State) (a b : T) (answer : Answer (List Material)) → DecidesOn (digests [] s) answer → MeetsPart Hears HearsPart answer a b → (Rose (lent a).faults (lent b).faults → ⊥)
       → FromState Expand s (λ all. WholeLines all (lent a).ink (lent b).ink)
   lines_part s a b answer g m calm = lines_all s answer m.rows (option_to_list m.last ++ m.more) a b g (m.is ∙ append_assoc m.rows (option_to_list m.last) m.more) (part_whole m.rows m.last a b m.heard calm)
 
@@ -196,32 +197,46 @@ module _ {T : Type 0} (lent : T → Lent) where
   expand_lines (Err stop.NoMemory) s new a b g calm = lines_part s a b g.answer g.given g.meets calm
 
 -- the cause of a stop is one of the run
-pub stop_cause : (e : Stop) (reads tells reads' tells' : ℕ) → Because {A = List Material} (Err e) (outside reads tells) (outside reads' tells') → HasRunCause (stopped e) (Rose reads reads') (Rose tells tells')
-stop_cause (stop.Tex f) reads tells reads' tells' h = tt
-stop_cause (stop.Limit n) reads tells reads' tells' h = tt
-stop_cause stop.ReadFailed reads tells reads' tells' h = h
-stop_cause stop.TellFailed reads tells reads' tells' h = h
-stop_cause stop.NoMemory reads tells reads' tells' h = tt
+pub stop_files : (e : Stop) (m n : ℕ) → ReadsBecause {A = List Material} (Err e) m n → FilesBlamed (stopped e) m n
+stop_files (stop.Tex f) m n h = h
+stop_files (stop.Limit k) m n h = h
+stop_files stop.ReadFailed m n h = h
+stop_files stop.TellFailed m n h = h
+stop_files stop.NoMemory m n h = h
 
-pub cause_weaker : (s : Status) (fr fr' or : Type 0) → (fr → fr') → HasRunCause s fr or → HasRunCause s fr' or
-cause_weaker status.Done fr fr' or go h = tt
-cause_weaker (status.Usage k) fr fr' or go h = tt
-cause_weaker (status.Tex f) fr fr' or go h = tt
-cause_weaker (status.Limit n) fr fr' or go h = tt
-cause_weaker status.ReadFault fr fr' or go h = go h
-cause_weaker status.WriteFault fr fr' or go h = h
-cause_weaker status.NoMemory fr fr' or go h = tt
+pub stop_sink : (e : Stop) (m n : ℕ) → TellsBecause {A = List Material} (Err e) m n → SinkBlamed (stopped e) m n
+stop_sink (stop.Tex f) m n h = h
+stop_sink (stop.Limit k) m n h = h
+stop_sink stop.ReadFailed m n h = h
+stop_sink stop.TellFailed m n h = h
+stop_sink stop.NoMemory m n h = h
+
+-- nobody can fail to be told
+pub silent_sink : (e : Stop) (n : ℕ) → TellsBecause {A = List Material} (Err e) 0 0 → SinkBlamed (stopped e) n n
+silent_sink (stop.Tex f) n h = refl
+silent_sink (stop.Limit k) n h = refl
+silent_sink stop.ReadFailed n h = refl
+silent_sink stop.TellFailed n h = absurd (omega (arith, h))
+silent_sink stop.NoMemory n h = refl
+
+-- the limit that is met is the engine's
+pub stop_limit : (e : Stop) (h : Held) (limit : ℕ) → IsAtLimit {A = List Material} (Err e) h → h.limit ≡ limit → LimitIs limit (stopped e)
+stop_limit (stop.Tex f) h limit l e = tt
+stop_limit (stop.Limit n) h limit l e = l.1 ∙ e
+stop_limit stop.ReadFailed h limit l e = tt
+stop_limit stop.TellFailed h limit l e = tt
+stop_limit stop.NoMemory h limit l e = tt
 
 -- where nothing failed, a run that may end so ends with the outcome
-pub ends_exactly : (s : Status) (all : Outcome) (old new : Ink) (files_rose out_rose : Type 0) → HasRunCause s files_rose out_rose → (files_rose → ⊥) → (out_rose → ⊥) → s ≢ status.NoMemory
+pub ends_exactly : (s : Status) (all : Outcome) (old new : Ink) (m n j k : ℕ) → FilesBlamed s m n → SinkBlamed s j k → (Rose m n → ⊥) → (Rose j k → ⊥) → s ≢ status.NoMemory
     → MayEnd s all old new → EndsAs s all old new
-ends_exactly status.Done all old new fr or h nf calm nm m = m
-ends_exactly (status.Usage k) all old new fr or h nf calm nm m = m
-ends_exactly (status.Tex f) all old new fr or h nf calm nm m = m
-ends_exactly (status.Limit n) all old new fr or h nf calm nm m = m
-ends_exactly status.ReadFault all old new fr or h nf calm nm m = absurd (nf h)
-ends_exactly status.WriteFault all old new fr or h nf calm nm m = absurd (calm h)
-ends_exactly status.NoMemory all old new fr or h nf calm nm m = absurd (nm refl)
+ends_exactly status.Done all old new i n j k f o nf calm nm m = m
+ends_exactly (status.Usage w) all old new i n j k f o nf calm nm m = m
+ends_exactly (status.Tex e) all old new i n j k f o nf calm nm m = m
+ends_exactly (status.Limit l) all old new i n j k f o nf calm nm m = m
+ends_exactly status.ReadFault all old new i n j k f o nf calm nm m = absurd (nf f)
+ends_exactly status.WriteFault all old new i n j k f o nf calm nm m = absurd (calm o)
+ends_exactly status.NoMemory all old new i n j k f o nf calm nm m = absurd (nm refl)
 
 -- by what the words ask for
 pub usage_page : (r : Result Request ℕ) (which : ℕ) (s : Status) (all : Outcome) → r ≡ Err which → PageAsked r s all
@@ -237,8 +252,8 @@ pub asked_lines : (r : Result Request ℕ) (request : Request) (all : Outcome) (
 asked_lines r request all old new e h = subst (λ r. LinesAsked r all old new) (sym e) h
 
 -- a run that doesn't start
-module _ (words : List (List ℕ)) (shelf : Shelf) (request : Request) (e : asked words ≡ Ok request) (rose : Type 0) where
-  pub start_meets : (s : Status) (ink : Ink) → Starts shelf request.file request.limit (Err s) rose → IsTrue shelf.tells → OfOutcome words shelf.contents (λ all. MayEnd s all ink ink)
+module _ (words : List (List ℕ)) (shelf : Shelf) (request : Request) (e : asked words ≡ Ok request) where
+  pub start_meets : (s : Status) (ink : Ink) → Starts shelf request.file request.limit (Err s) → IsTrue shelf.tells → OfOutcome words shelf.contents (λ all. MayEnd s all ink ink)
   start_meets status.Done ink h told = absurd h
   start_meets (status.Usage k) ink h told = absurd h
   start_meets (status.Tex f) ink h told = of_fault words shelf.contents request (status.Tex f) _ e (h told) (refused_ends (status.Tex f) ink)
@@ -247,16 +262,7 @@ module _ (words : List (List ℕ)) (shelf : Shelf) (request : Request) (e : aske
   start_meets status.WriteFault ink h told = absurd h
   start_meets status.NoMemory ink h told = of_any words shelf.contents _ (λ all. none_written all.bytes ink)
 
-  pub start_cause : (s : Status) (out_rose : Type 0) → Starts shelf request.file request.limit (Err s) rose → HasRunCause s rose out_rose
-  start_cause status.Done or h = tt
-  start_cause (status.Usage k) or h = tt
-  start_cause (status.Tex f) or h = tt
-  start_cause (status.Limit n) or h = tt
-  start_cause status.ReadFault or h = h
-  start_cause status.WriteFault or h = absurd h
-  start_cause status.NoMemory or h = tt
-
-  pub start_page : (command : Command) (s : Status) (all : Outcome) → Starts shelf request.file request.limit (Err s) rose → WritesPage command s all
+  pub start_page : (command : Command) (s : Status) (all : Outcome) → Starts shelf request.file request.limit (Err s) → WritesPage command s all
   start_page Convert status.Done all h = tt
   start_page Convert (status.Usage k) all h = tt
   start_page Convert (status.Tex f) all h = tt
@@ -265,6 +271,34 @@ module _ (words : List (List ℕ)) (shelf : Shelf) (request : Request) (e : aske
   start_page Convert status.WriteFault all h = absurd h
   start_page Convert status.NoMemory all h = tt
   start_page Expand s all h = tt
+
+pub start_sink : (shelf : Shelf) (name : List ℕ) (limit : ℕ) (s : Status) (n : ℕ) → Starts shelf name limit (Err s) → SinkBlamed s n n
+start_sink shelf name limit status.Done n h = refl
+start_sink shelf name limit (status.Usage k) n h = refl
+start_sink shelf name limit (status.Tex f) n h = refl
+start_sink shelf name limit (status.Limit m) n h = refl
+start_sink shelf name limit status.ReadFault n h = refl
+start_sink shelf name limit status.WriteFault n h = absurd h
+start_sink shelf name limit status.NoMemory n h = refl
+
+pub start_limit : (shelf : Shelf) (name : List ℕ) (limit more : ℕ) (s : Status) → Starts shelf name limit (Err s) → LimitIs more s
+start_limit shelf name limit more status.Done h = tt
+start_limit shelf name limit more (status.Usage k) h = h
+start_limit shelf name limit more (status.Tex f) h = tt
+start_limit shelf name limit more (status.Limit m) h = absurd h
+start_limit shelf name limit more status.ReadFault h = tt
+start_limit shelf name limit more status.WriteFault h = tt
+start_limit shelf name limit more status.NoMemory h = tt
+
+-- what the words say of a status
+pub fits_ok : (r : Result Request ℕ) (request : Request) (s : Status) → r ≡ Ok request → LimitIs request.limit s → FitsWords r s
+fits_ok r request s e h = subst (λ r. FitsWords r s) (sym e) h
+
+pub fits_usage : (r : Result Request ℕ) (which : ℕ) → r ≡ Err which → FitsWords r (status.Usage which)
+fits_usage r which e = subst (λ r. FitsWords r (status.Usage which)) (sym e) refl
+
+pub untouched_ok : (r : Result Request ℕ) (request : Request) (shelf new : Shelf) (ink more : Ink) → r ≡ Ok request → TouchesNothing r shelf new ink more
+untouched_ok r request shelf new ink more e = subst (λ r. TouchesNothing r shelf new ink more) (sym e) tt
 
 -- a run that has started
 pub started : (words : List (List ℕ)) (contents : List ℕ → Option (List ℕ)) (request : Request) (engine : Held) (Has : Outcome → Type 0) → asked words ≡ Ok request

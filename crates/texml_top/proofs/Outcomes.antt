@@ -1,9 +1,9 @@
 -- A run has one outcome.
-use Rattle.std.proofs.Common.{◌≡◌, ℕ, List, [], Result, Ok, Err, refl, sym, ap, ◌∙◌, subst}
+use Rattle.std.proofs.Common.{◌≡◌, ℕ, arith, List, [], Result, Ok, Err, refl, sym, ap, ◌∙◌, subst}
 use Rattle.std.specs.declared.option.Option.{Option}
 use Rattle.texml_watch.specs.Trace.{trace}
 use Rattle.texml_expand.specs.State.{State, Answer, Done, Ended, Unfinished, IsDecided, added}
-use Rattle.texml_expand.specs.Contract.{Gives}
+use Rattle.texml_expand.specs.Contract.{DecidesOn}
 use Rattle.texml_top.specs.Request.{Request, asked}
 use Rattle.texml_top.specs.declared.request.Command.{Command}
 use Rattle.texml_top.specs.declared.request.Command.TheVariants.{Convert, Expand}
@@ -13,7 +13,9 @@ use Rattle.texml_top.specs.Outcome.{Outcome, refused, text_of, first_state, stat
 use Rattle.texml_top.specs.declared.material.Material.{Material}
 use Rattle.texml_top.specs.declared.status.Status.{Status}
 use Rattle.texml_top.specs.declared.status.Status.TheVariants as status
-use Rattle.texml_top.proofs.Digesting.{digest, gives_digest, digest_decided, digest_given}
+use Rattle.texml_expand.proofs.Order.{IsWithin}
+use Rattle.texml_assign.proofs.Readings.{decides_at, decides_one}
+use Rattle.texml_top.proofs.Digesting.{lawful_digests}
 
 -- the outcome that an answer of digestion makes
 pub outcome_by : Command → Answer (List Material) → Outcome
@@ -56,22 +58,33 @@ expand_records (Ended e gains) d = refl
 expand_records (Unfinished gains) d = absurd d
 
 -- an outcome by an answer that some depth gives
-pub is_from : (command : Command) (s : State) (a x : Answer (List Material)) (all : Outcome) → Gives (digests [] s) a → a ≡ x → IsOutcomeBy command x all → IsOutcomeFrom command s all
+pub is_from : (command : Command) (s : State) (a x : Answer (List Material)) (all : Outcome) → DecidesOn (digests [] s) a → a ≡ x → IsOutcomeBy command x all → IsOutcomeFrom command s all
 is_from command s a x all g e h = record { answer = a; given = g; is = subst (λ y. IsOutcomeBy command y all) (sym e) h }
 
-pub outcome_from : Command → State → Outcome
-outcome_from command s = outcome_by command (digest [] s)
+-- the one answer of digestion, from a state in which no more expansions have begun than may
+pub answer_from : (s : State) → IsWithin s → Answer (List Material)
+answer_from s w = let h = (lawful_digests []).settles s w in digests [] s h.at
 
-pub is_outcome_from : (command : Command) (s : State) → IsOutcomeFrom command s (outcome_from command s)
-unfolding outcome_from
-is_outcome_from command s = is_from command s (digest [] s) (digest [] s) _ (gives_digest [] s) refl (is_by command (digest [] s) (digest_decided [] s))
+pub decides_from : (s : State) (w : IsWithin s) → DecidesOn (digests [] s) (answer_from s w)
+unfolding answer_from
+decides_from s w = decides_at (digests [] s) ((lawful_digests []).settles s w)
 
-one_from : (command : Command) (s : State) (all : Outcome) → IsOutcomeFrom command s all → all ≡ outcome_from command s
+pub outcome_from : Command → (s : State) → IsWithin s → Outcome
+outcome_from command s w = outcome_by command (answer_from s w)
+
+pub is_outcome_from : (command : Command) (s : State) (w : IsWithin s) → IsOutcomeFrom command s (outcome_from command s w)
 unfolding outcome_from
-one_from command s all h = one_by command h.answer all h.is ∙ ap (outcome_by command) (sym (digest_given [] s h.answer h.given))
+is_outcome_from command s w = is_from command s (answer_from s w) (answer_from s w) _ (decides_from s w) refl (is_by command (answer_from s w) (decides_from s w).decided)
+
+one_from : (command : Command) (s : State) (w : IsWithin s) (all : Outcome) → IsOutcomeFrom command s all → all ≡ outcome_from command s w
+unfolding outcome_from
+one_from command s w all h = one_by command h.answer all h.is ∙ ap (outcome_by command) (decides_one (digests [] s) ((lawful_digests []).mono s) h.answer (answer_from s w) h.given (decides_from s w))
 
 one_of : (request : Request) (found : Result (List ℕ) Status) → (all : Outcome) × IsOutcomeOf request found all × ((other : Outcome) → IsOutcomeOf request found other → other ≡ all)
-one_of request (Ok text) = let s = first_state request.file request.limit text in (outcome_from request.command s, is_outcome_from request.command s, one_from request.command s)
+one_of request (Ok text) =
+    let s = first_state request.file request.limit text in
+    let w : IsWithin s = omega arith in
+    (outcome_from request.command s w, is_outcome_from request.command s w, one_from request.command s w)
 one_of request (Err s) = (refused s, refl, λ other e. e)
 
 one_asked : (r : Result Request ℕ) (contents : List ℕ → Option (List ℕ)) → (all : Outcome) × IsOutcomeAsked r contents all × ((other : Outcome) → IsOutcomeAsked r contents other → other ≡ all)
@@ -88,8 +101,8 @@ with_all Is Has all is h = record { all = all; is = is; has = h all }
 pub of_any : (words : List (List ℕ)) (contents : List ℕ → Option (List ℕ)) (Has : Outcome → Type 0) → ((all : Outcome) → Has all) → OfOutcome words contents Has
 of_any words contents Has h = let one = one_outcome words contents in with_all _ Has one.all one.is h
 
-pub from_any : (command : Command) (s : State) (Has : Outcome → Type 0) → ((all : Outcome) → Has all) → FromState command s Has
-from_any command s Has h = with_all _ Has (outcome_from command s) (is_outcome_from command s) h
+pub from_any : (command : Command) (s : State) → IsWithin s → (Has : Outcome → Type 0) → ((all : Outcome) → Has all) → FromState command s Has
+from_any command s w Has h = with_all _ Has (outcome_from command s w) (is_outcome_from command s w) h
 
 pub with_weaker : {Is : Outcome → Type 0} {P : Outcome → Type 0} (Q : Outcome → Type 0) → ((all : Outcome) → P all → Q all) → WithOutcome Is P → WithOutcome Is Q
 with_weaker Q go w = record { all = w.all; is = w.is; has = go w.all w.has }

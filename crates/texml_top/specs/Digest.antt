@@ -51,7 +51,7 @@ digest_meaning m = fail MISPLACED []
 -- a token that was executed puts nothing into the document; another one is digested
 abbrev pub digest_left : Token → Executed → Reading (List Material)
 digest_left t Yes = give []
-digest_left t NotMine s = digest_meaning (means s.world t) s
+digest_left t NotMine = λ s. digest_meaning (means s.world t) s
 
 abbrev pub digest_token : Token → ByDepth (List Material)
 digest_token t n = do

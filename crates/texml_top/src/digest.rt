@@ -1,14 +1,16 @@
 // Digests what an engine fetches: what it puts into the document.
-ghost use Rattle.std.specs.Prelude.{◌≡◌, ◌++◌, [], length, None, IfErr, OnErr, OnOk, option_to_list};
+ghost use Rattle.std.specs.Prelude.{◌≡◌, ◌++◌, [], length, None, OnOk, option_to_list};
 ghost use Rattle.std.specs.Char.{IsScalar};
 ghost use Rattle.texml_token.specs.Numbers.{token_at, TokenWithin};
 ghost use Rattle.texml_scope.specs.Numbers.{meaning_at, MeaningWithin};
-ghost use Rattle.texml_expand.specs.Contract.{Silent, Stops, outside, stop_after};
-ghost use Rattle.texml_expand.specs.Hearing.{hears, hears_part, Follows};
-ghost use Rattle.texml_expand.specs.Held.{state_of, Sound, Kept, IsAtLimit, ok_at};
+ghost use Rattle.texml_expand.specs.Contract.{Silent, outside, stop_after};
+ghost use Rattle.texml_expand.specs.Hearing.{hears, hears_part};
+ghost use Rattle.texml_expand.specs.Held.{state_of, Sound, Kept, ok_at};
 ghost use Rattle.texml_assign.specs.Advance.{Advances};
 ghost use Rattle.texml_assign.specs.Doing.{Does};
-ghost use Rattle.texml_top.specs.Digest.{digests, digest_meaning as spec_digest_meaning, digest_builtin as spec_digest_builtin, digest_char as spec_digest_char, digest_token as spec_digest_token};
+ghost use Rattle.texml_assign.specs.Loop.{loops};
+ghost use Rattle.texml_assign.specs.declared.executing.Executed.TheVariants.{NotMine};
+ghost use Rattle.texml_top.specs.Digest.{digestion, digest_left as spec_digest_left, digest_meaning as spec_digest_meaning, digest_builtin as spec_digest_builtin, digest_char as spec_digest_char, digest_token as spec_digest_token};
 
 use crate::material::Material;
 use std::alloc::{AllocError, Global};
@@ -33,11 +35,8 @@ pub fn digest<F: Files, T: Teller>(
 ) -> Result<Vec<Material>, Stop>
     requires running { engine.old.stop ≡ None }
     requires sound { Sound engine.old }
-    ensures follows { Follows (hears T.wanting T.heard) (hears_part T.wanting T.part) (digests [] (state_of engine.old))
-        (ok_at (λ v. v.items) result) (state_of engine.new) tell.old tell.new }
-    ensures stops { Stops result (outside (F.faults files.old) (T.faults tell.old)) (outside (F.faults files.new) (T.faults tell.new)) engine.new.stop }
-    ensures limit { IsAtLimit result engine.new }
-    ensures advances { Advances engine.old engine.new }
+    ensures does { Does (hears T.wanting T.heard) (hears_part T.wanting T.part) (loops digestion []) (ok_at (λ v. v.items) result) engine.old engine.new
+        (outside (F.faults files.old) (T.faults tell.old)) (outside (F.faults files.new) (T.faults tell.new)) tell.old tell.new }
     ensures files { files.new ≡ files.old }
 {
     let mut seen = Vec::new(alloc);
@@ -88,13 +87,28 @@ fn digest_token<F: Files, T: Teller>(
         (outside (F.faults files.old) (T.faults tell.old)) (outside (F.faults files.new) (T.faults tell.new)) tell.old tell.new }
     ensures files { files.new ≡ files.old }
 {
-    match execute(alloc, engine, files, tell, token)? {
+    let done = execute(alloc, engine, files, tell, token)?;
+    match done {
         Executed::Yes => Ok(None),
-        Executed::NotMine => {
-            let meaning = meaning_of(engine, token)?;
-            digest_meaning(engine, &meaning)
-        }
+        Executed::NotMine => digest_left(engine, token),
     }
+}
+
+// Does what a token asks for that wasn't executed.
+fn digest_left(engine: &mut Engine, token: Token) -> Result<Option<Material>, Stop>
+    requires running { engine.old.stop ≡ None }
+    requires sound { Sound engine.old }
+    requires token { TokenWithin (length engine.old.names) token }
+    ensures digests { Silent (spec_digest_left (token_at engine.old.names token) NotMine (state_of engine.old)) (ok_at option_to_list result) (state_of engine.new) }
+    ensures kept { engine.new.stop ≡ stop_after result }
+    ensures keeps { OnOk result (Kept engine.old engine.new) }
+    ensures advances { Advances engine.old engine.new }
+{
+    let meaning = match meaning_of(engine, token) {
+        Ok(meaning) => meaning,
+        Err(_) => return Err(engine.no_memory()),
+    };
+    digest_meaning(engine, &meaning)
 }
 
 // Does what a meaning asks for that is no command.

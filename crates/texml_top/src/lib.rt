@@ -22,8 +22,6 @@ pub use status::Status;
 pub use top::run;
 
 #[cfg(test)]
-mod engine_tests;
-#[cfg(test)]
 mod request_tests;
 #[cfg(test)]
 mod tests;

@@ -1,13 +1,17 @@
-use Rattle.std.proofs.Common.{◌≡◌, ◌-◌}
+use Rattle.std.proofs.Common.{◌≡◌, ◌-◌, []}
 use Rattle.texml_expand.specs.State.{room}
 use Rattle.texml_expand.specs.Held.{state_of}
+use Rattle.texml_expand.specs.Contract.{outside}
 use Rattle.texml_expand.specs.Hearing.{hears, hears_part}
-use Rattle.texml_top.proofs.Turns.{Digesting}
+use Rattle.texml_assign.proofs.Doing.{Goes}
+use Rattle.texml_top.specs.Digest.{digestion}
+use Rattle.texml_top.proofs.Digesting.{digestion_laws}
 use Rattle.texml_top.proofs.digest.digest.Given as goal
 
 abbrev pub invariant-rounds : goal.invariant-rounds
 invariant-rounds g l = record {
-  digesting : Digesting (hears g.T.Teller.wanting g.T.Teller.heard) (hears_part g.T.Teller.wanting g.T.Teller.part) g.T.Teller.faults l.fn.engine l.fn.tell l.seen.items l.engine l.tell;
+  going : Goes (hears g.T.Teller.wanting g.T.Teller.heard) (hears_part g.T.Teller.wanting g.T.Teller.part) digestion digestion_laws [] l.fn.engine (outside (g.F.Files.faults l.fn.files) (g.T.Teller.faults l.fn.tell)) l.fn.tell
+      l.seen.items l.engine (outside (g.F.Files.faults l.files) (g.T.Teller.faults l.tell)) l.tell;
   files : l.files ≡ l.fn.files;
 }
 
@@ -16,7 +20,8 @@ decreases-rounds g l = l.engine.limit - l.engine.begun
 
 abbrev pub invariant-tokens : goal.invariant-tokens
 invariant-tokens g l = record {
-  digesting : Digesting (hears g.T.Teller.wanting g.T.Teller.heard) (hears_part g.T.Teller.wanting g.T.Teller.part) g.T.Teller.faults l.fn.engine l.fn.tell l.seen.items l.engine l.tell;
+  going : Goes (hears g.T.Teller.wanting g.T.Teller.heard) (hears_part g.T.Teller.wanting g.T.Teller.part) digestion digestion_laws [] l.fn.engine (outside (g.F.Files.faults l.fn.files) (g.T.Teller.faults l.fn.tell)) l.fn.tell
+      l.seen.items l.engine (outside (g.F.Files.faults l.files) (g.T.Teller.faults l.tell)) l.tell;
   files : l.files ≡ l.fn.files;
   begun : l.engine.begun ≡ l.begun;
   same : l.begun ≡ l.initial.engine.begun;

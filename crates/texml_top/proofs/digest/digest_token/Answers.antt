@@ -1,12 +1,44 @@
-use Rattle.texml_expand.specs.Held.{state_of}
-use Rattle.texml_top.specs.Digest.{begin_brace}
-use Rattle.texml_top.proofs.Answering.{none_done, digest_named}
+use Rattle.std.proofs.Common.{ℕ, [], Ok, Err, refl, sym, ap, subst, ◌∙◌, length, rules}
+use Rattle.std.specs.Option.{option_to_list}
+use Rattle.texml_token.specs.Token.{Token}
+use Rattle.texml_token.specs.Numbers.{token_at, TokenWithin}
+use Rattle.texml_expand.specs.Contract.{Silent}
+use Rattle.texml_expand.specs.Held.{Held, Kept, state_of, ok_at}
+use Rattle.texml_assign.specs.Doing.{Does}
+use Rattle.texml_assign.specs.declared.executing.Executed.TheVariants.{Yes, NotMine}
+use Rattle.texml_assign.specs.Execute.{execute}
+use Rattle.texml_assign.proofs.Doing.{does_then, does_stop, does_now, does_silent, kept_of, keeps_of}
+use Rattle.texml_assign.proofs.Commands.{lawful_execute}
+use Rattle.texml_top.specs.Digest.{digest_left}
+use Rattle.texml_top.proofs.Digesting.{plain_left, lawful_left}
 use Rattle.texml_top.proofs.digest.digest_token.Goals as goal
 
-pub returns-in_ok-begin_brace-in-1-clause-digests : goal.returns-in_ok-begin_brace-in-1-clause-digests
-returns-in_ok-begin_brace-in-1-clause-digests g c = rw (c.in-Char.is, c.in-1.is) (none_done begin_brace (state_of c.args.engine.now) (state_of c.begin_brace.new.engine) c.in_ok-begin_brace-in-1.ensures.begins)
+pub returns-in_err-done-clause-does : goal.returns-in_err-done-clause-does
+returns-in_err-done-clause-does g c =
+    let f = c.in_err-done.ensures in let t = token_at c.args.engine.now.names c.args.token in
+    let h = does_stop _ _ (execute t) (λ done n. digest_left t done) (lawful_execute t) (lawful_left t) _ c.args.engine.now c.execute.new.engine _ _ _ _ c.requires.sound
+    (record { follows = f.follows; stops = f.stops; limit = f.limit; keeps = tt; advances = f.advances }) in
+    search (rules, h)
 
-pub returns-else-name-eq0-clause-digests : goal.returns-else-name-eq0-clause-digests
-returns-else-name-eq0-clause-digests g c =
-    rw c.in-Named.is
-    (digest_named c.args.engine.now.names c.in-Named.name.0 (state_of c.args.engine.now) (state_of c.digest_key-in-Named.new.engine) _ c.if-name-eq0.false c.digest_key-in-Named.ensures.digests)
+pub returns-in-Yes-clause-does : goal.returns-in-Yes-clause-does
+returns-in-Yes-clause-does g c =
+    let f = c.in_ok-done.ensures in let t = token_at c.args.engine.now.names c.args.token in let mid = c.execute.new.engine in
+    let d = rw c.in-Yes.is at f.follows in
+    does_then _ _ (execute t) (λ done n. digest_left t done) (lawful_execute t) (lawful_left t) Yes (Ok []) c.args.engine.now mid mid _ _ _ _ _ _
+    (record { follows = d; stops = record { kept = f.stops.kept; reads = f.stops.reads; tells = f.stops.tells }; limit = tt; keeps = f.keeps; advances = f.advances })
+    (does_now _ _ (digest_left t Yes) (plain_left t Yes) [] mid _ _ f.keeps.sound f.stops.kept refl)
+
+pub digest_left-requires-clause-token : goal.digest_left-requires-clause-token
+digest_left-requires-clause-token g c =
+    let same = c.in_ok-done.ensures.same c.in-NotMine.is in
+    subst (λ (h : Held). TokenWithin (length h.names) c.args.token) (sym same.0) c.requires.token
+
+pub returns-in-NotMine-clause-does : goal.returns-in-NotMine-clause-does
+returns-in-NotMine-clause-does g c =
+    let f = c.in_ok-done.ensures in let old = c.args.engine.now in let t = token_at old.names c.args.token in let mid = c.execute.new.engine in let l = c.digest_left.ensures in let new = c.digest_left.new.engine in
+    let d = rw c.in-NotMine.is at f.follows in
+    let same = ap (λ (h : Held). token_at h.names c.args.token) (c.in_ok-done.ensures.same c.in-NotMine.is).0 in
+    let P : Token → Type 0 = λ t. Silent (digest_left t NotMine (state_of mid)) (ok_at option_to_list c.digest_left.result) (state_of new) in
+    does_then _ _ (execute t) (λ done n. digest_left t done) (lawful_execute t) (lawful_left t) NotMine _ old mid new _ _ _ _ _ _
+    (record { follows = d; stops = record { kept = f.stops.kept; reads = f.stops.reads; tells = f.stops.tells }; limit = tt; keeps = f.keeps; advances = f.advances })
+    (does_silent _ _ (digest_left t NotMine) (plain_left t NotMine) (ok_at option_to_list c.digest_left.result) mid new _ _ _ _ _ _ refl refl refl (subst P same l.digests) (kept_of option_to_list c.digest_left.result new.stop l.kept) (keeps_of option_to_list c.digest_left.result (Kept mid new) l.keeps) l.advances)

@@ -1,8 +1,9 @@
-use Rattle.std.proofs.Common.{map, string_bytes, arith}
+use Rattle.std.proofs.Common.{map, string_bytes, subst}
 use Rattle.texml_top.specs.Request.{asked, read_as}
+use Rattle.texml_top.specs.Run.{FilesBlamed}
 use Rattle.texml_top.specs.declared.status.Status.TheVariants.{Usage}
 use Rattle.texml_top.proofs.Outcomes.{of_words, of_any, with_weaker}
-use Rattle.texml_top.proofs.Ending.{refused_ends, no_lines_by, ends_exactly, usage_page, usage_lines, asked_page, asked_lines, start_meets, start_cause, start_page, started}
+use Rattle.texml_top.proofs.Ending.{refused_ends, no_lines_by, ends_exactly, usage_page, usage_lines, asked_page, asked_lines, start_meets, start_sink, start_page, started}
 use Rattle.texml_top.proofs.top.run.Goals as goal
 
 -- words that are no command line
@@ -33,12 +34,12 @@ returns-in-Err-start_engine-clause-outcome g c = λ told read wrote memory.
     let request = read_as c.in-Ok.request in
     let status = c.in-Err-start_engine.status in
     let starts = c.in-Err-start_engine.ensures.starts in
-    with_weaker _ (λ all may. ends_exactly status all ink ink _ _ (start_cause words shelf request c.in-Ok.ensures _ status _ starts) read wrote memory may)
-    (start_meets words shelf request c.in-Ok.ensures _ status ink starts told)
+    with_weaker _ (λ all may. ends_exactly status all ink ink _ _ _ _ c.in-Err-start_engine.ensures.blames (start_sink shelf request.file request.limit status (g.S.Sink.faults c.args.out.now) starts) read wrote memory may)
+    (start_meets words shelf request c.in-Ok.ensures status ink starts told)
 
 pub returns-in-Err-start_engine-clause-meets : goal.returns-in-Err-start_engine-clause-meets
 returns-in-Err-start_engine-clause-meets g c = λ told.
-    start_meets (map string_bytes c.args.words.now) (g.F.Files.shelf c.args.files.now) (read_as c.in-Ok.request) c.in-Ok.ensures _ _ (g.S.Sink.ink c.args.out.now) c.in-Err-start_engine.ensures.starts told
+    start_meets (map string_bytes c.args.words.now) (g.F.Files.shelf c.args.files.now) (read_as c.in-Ok.request) c.in-Ok.ensures _ (g.S.Sink.ink c.args.out.now) c.in-Err-start_engine.ensures.starts told
 
 pub returns-in-Err-start_engine-clause-page : goal.returns-in-Err-start_engine-clause-page
 returns-in-Err-start_engine-clause-page g c = λ told.
@@ -46,7 +47,7 @@ returns-in-Err-start_engine-clause-page g c = λ told.
     let shelf = g.F.Files.shelf c.args.files.now in
     let request = read_as c.in-Ok.request in
     of_any words shelf.contents _
-    (λ all. asked_page (asked words) request _ all c.in-Ok.ensures (start_page words shelf request c.in-Ok.ensures _ request.command _ all c.in-Err-start_engine.ensures.starts))
+    (λ all. asked_page (asked words) request _ all c.in-Ok.ensures (start_page words shelf request c.in-Ok.ensures request.command _ all c.in-Err-start_engine.ensures.starts))
 
 pub returns-in-Err-start_engine-clause-lines : goal.returns-in-Err-start_engine-clause-lines
 returns-in-Err-start_engine-clause-lines g c = λ told wrote.
@@ -58,8 +59,8 @@ returns-in-Err-start_engine-clause-lines g c = λ told wrote.
 -- a command that was performed
 pub returns-clause-outcome : goal.returns-clause-outcome
 returns-clause-outcome g c = λ told read wrote memory.
-    let later = c.in-Ok-start_engine.ensures.faults in
-    with_weaker _ (λ all may. ends_exactly c.perform.result all _ _ _ _ c.perform.ensures.cause (λ rose. read (omega (arith, rose, later))) wrote memory may)
+    let files = subst (λ n. FilesBlamed c.perform.result n (g.F.Files.faults c.perform.new.files)) c.in-Ok-start_engine.ensures.blames c.perform.ensures.files_cause in
+    with_weaker _ (λ all may. ends_exactly c.perform.result all _ _ _ _ _ _ files c.perform.ensures.out_cause read wrote memory may)
     (started (map string_bytes c.args.words.now) (g.F.Files.shelf c.args.files.now).contents (read_as c.in-Ok.request) c.in-Ok-start_engine.engine _ c.in-Ok.ensures
     (c.in-Ok-start_engine.ensures.starts told) c.perform.ensures.meets)
 
