@@ -4,10 +4,9 @@ use Rattle.std.specs.declared.string.String.{String}
 use Rattle.std.specs.declared.vec.Vec.{Vec}
 use Rattle.std.specs.declared.alloc.Global.{Global}
 use Rattle.texml_base.specs.Outside.{Shelf, Ink}
-use Rattle.texml_base.specs.Rising.{Rose}
 use Rattle.texml_top.specs.Request.{asked}
 use Rattle.texml_top.specs.Outcome.{OfOutcome}
-use Rattle.texml_top.specs.Run.{MayEnd, HasRunCause, RefusesWords}
+use Rattle.texml_top.specs.Run.{MayEnd, FilesBlamed, SinkBlamed, FitsWords, TouchesNothing}
 use Rattle.texml_top.specs.declared.status.Status.{Status}
 use Rattle.texml_top.specs.declared.status.Status.TheVariants as status
 use Rattle.texml.specs.declared.words.WordsFault.{WordsFault}
@@ -37,8 +36,10 @@ pub record ExitsRun (words : List (List ℕ)) (old new : Outside) (code : ℕ) :
   pub status : Status
   pub is : code ≡ exit_code status
   pub meets : IsTrue old.shelf.tells → OfOutcome words old.shelf.contents (λ all. MayEnd status all old.ink new.ink)
-  pub cause : HasRunCause status (Rose old.reads new.reads) (Rose old.writes new.writes)
-  pub refused : RefusesWords (asked words) status ((new.shelf ≡ old.shelf) × (new.reads ≡ old.reads) × (new.ink ≡ old.ink))
+  pub files_cause : FilesBlamed status old.reads new.reads
+  pub out_cause : SinkBlamed status old.writes new.writes
+  pub words_fit : FitsWords (asked words) status
+  pub untouched : TouchesNothing (asked words) old.shelf new.shelf old.ink new.ink
   pub notes : new.notes ≡ old.notes
   pub closed : new.shelf.ids ≡ []
 

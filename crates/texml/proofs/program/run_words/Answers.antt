@@ -7,8 +7,10 @@ returns-in-Ok g c =
       status = c.run.result;
       is = c.exit_code_of.ensures;
       meets = rw words at c.run.ensures.meets;
-      cause = c.run.ensures.cause;
-      refused = rw words at c.run.ensures.words;
+      files_cause = c.run.ensures.files_cause;
+      out_cause = c.run.ensures.out_cause;
+      words_fit = rw words at c.run.ensures.words;
+      untouched = rw words at c.run.ensures.untouched;
       notes = c.run.ensures.notes;
       closed = c.run.ensures.closed;
     })
