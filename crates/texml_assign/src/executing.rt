@@ -299,11 +299,7 @@ fn prefixed<F: Files, T: Teller>(
 }
 
 // What a token behind prefixes is.
-fn token_behind(
-    engine: &Engine,
-    prefixes: Prefixes,
-    token: Token,
-) -> Result<Behind, AllocError>
+fn token_behind(engine: &Engine, prefixes: Prefixes, token: Token) -> Result<Behind, AllocError>
     requires sound { Sound engine.now }
     requires token { TokenWithin (length engine.now.names) token }
     ensures { IfOk result (λ b. prefix_turn prefixes (token_at engine.now.names token) 0 (state_of engine.now) ≡ turn_of prefixes b (state_of engine.now)) }
