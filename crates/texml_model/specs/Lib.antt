@@ -1,5 +1,0 @@
-pub mod Chain
-pub mod Rules
-pub mod Levels
-pub mod Prepared
-pub mod Small

@@ -1,4 +1,0 @@
-pub mod Owning
-pub mod Walks
-pub mod Leading
-pub mod Rows

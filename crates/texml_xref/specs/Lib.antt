@@ -1,5 +1,0 @@
-pub mod Refs
-pub mod Linked
-pub mod Links
-pub mod Found
-pub mod Small
