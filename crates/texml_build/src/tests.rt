@@ -1,0 +1,407 @@
+//! Trees of small tables of operations.
+
+ghost use Rattle.std.specs.Prelude.{◌≡◌, map, None, IfOk};
+ghost use Rattle.texml_build.specs.Small.{small, line as line_of};
+
+use crate::{BuildFault, build};
+use bumpalo::Bump;
+use std::alloc::{AllocError, Global};
+use std::process::Abort;
+use std::test::Fail;
+use texml_model::Content;
+use texml_token::{ByteList, Bytes};
+use texml_tree::{Elem, ElementLine, ElementLines, Elements, Flags, Node, Op, Ops, Sets};
+
+const PLAIN: Flags = Flags {
+    text: false,
+    block: false,
+    opens: false,
+    closes: false,
+    id: false,
+    toc: false,
+    void: false,
+};
+
+const CELL: Flags = Flags {
+    text: true,
+    block: true,
+    opens: true,
+    closes: true,
+    id: false,
+    toc: false,
+    void: false,
+};
+
+const ROW: Flags = Flags {
+    text: false,
+    block: false,
+    opens: true,
+    closes: true,
+    id: false,
+    toc: false,
+    void: false,
+};
+
+const PART: Flags = Flags {
+    text: false,
+    block: false,
+    opens: false,
+    closes: true,
+    id: true,
+    toc: false,
+    void: false,
+};
+
+const VOID: Flags = Flags {
+    text: false,
+    block: false,
+    opens: false,
+    closes: false,
+    id: false,
+    toc: false,
+    void: true,
+};
+
+const P: usize = 1;
+
+const LIST: usize = 3;
+
+const ITEM: usize = 4;
+
+const QUOTE: usize = 5;
+
+const TABULAR: usize = 6;
+
+const TD: usize = 8;
+
+const BREAK: usize = 10;
+
+const NUMBER: usize = 0;
+
+const SPAN: usize = 1;
+
+/// An operation on texts that the program has.
+#[derive(Clone, Copy)]
+enum Step {
+    Open(usize),
+    With(usize, usize, &'static [u8]),
+    Close(usize),
+    CloseIf(usize),
+    Text(&'static [u8]),
+    Space,
+    Attr(usize, &'static [u8]),
+    Label(&'static [u8], &'static [u8]),
+    Ref(&'static [u8]),
+}
+
+fn texts(alloc: Global, list: &[&[u8]]) -> Result<ByteList, AllocError>
+    ensures { IfOk result (λ texts. texts ≡ map (λ t. t.now) list.now) }
+{
+    let mut texts = ByteList::new(alloc);
+    for text in list {
+        texts.push(Bytes::from_slice(alloc, *text)?)?;
+    }
+    Ok(texts)
+}
+
+fn line(
+    alloc: Global,
+    name: &[u8],
+    flags: Flags,
+    holds: &[&[u8]],
+    attrs: &[&[u8]],
+) -> Result<ElementLine, AllocError>
+    ensures { IfOk result (λ line. line ≡ line_of name.now flags (map (λ t. t.now) holds.now) (map (λ t. t.now) attrs.now)) }
+{
+    Ok(ElementLine {
+        name: Bytes::from_slice(alloc, name)?,
+        tag: Bytes::from_slice(alloc, name)?,
+        class: None,
+        flags,
+        holds: texts(alloc, holds)?,
+        attrs: texts(alloc, attrs)?,
+    })
+}
+
+fn lines(alloc: Global) -> Result<ElementLines, AllocError>
+    ensures { IfOk result (λ lines. lines ≡ small.lines) }
+{
+    let mut lines = ElementLines::new(alloc);
+    let parts: [&[u8]; 5] = [b"p", b"q", b"list", b"quote", b"tabular"];
+    let inline: [&[u8]; 2] = [b"ref", b"break"];
+    lines.push(line(alloc, b"document", PLAIN, &parts, &[])?)?;
+    lines.push(line(alloc, b"p", CELL, &inline, &[])?)?;
+    lines.push(line(alloc, b"q", CELL, &inline, &[])?)?;
+    lines.push(line(alloc, b"list", PLAIN, &[b"item"], &[])?)?;
+    lines.push(line(alloc, b"item", PART, &[b"p", b"list"], &[b"number"])?)?;
+    lines.push(line(alloc, b"quote", PLAIN, &[b"quote", b"p"], &[])?)?;
+    lines.push(line(alloc, b"tabular", PLAIN, &[b"tr"], &[])?)?;
+    lines.push(line(alloc, b"tr", ROW, &[b"td"], &[])?)?;
+    lines.push(line(alloc, b"td", CELL, &inline, &[b"span"])?)?;
+    lines.push(line(alloc, b"ref", PLAIN, &[], &[])?)?;
+    lines.push(line(alloc, b"break", VOID, &[], &[])?)?;
+    Ok(lines)
+}
+
+#[tactic(auto, using(crate::proofs::Rows::is_model))]
+fn small_model(alloc: Global) -> Result<Content, AllocError> {
+    let elements = Elements {
+        lines: lines(alloc)?,
+        attributes: texts(alloc, &[b"number", b"span"])?,
+    };
+    Content::new(alloc, &elements)
+}
+
+fn op(alloc: Global, step: Step) -> Result<Op, AllocError> {
+    Ok(match step {
+        Step::Open(elem) => Op::Open(Elem(elem), Sets::new(alloc)),
+        Step::With(elem, attr, value) => {
+            let mut sets = Sets::new(alloc);
+            sets.push((attr, Bytes::from_slice(alloc, value)?))?;
+            Op::Open(Elem(elem), sets)
+        }
+        Step::Close(elem) => Op::Close(Elem(elem)),
+        Step::CloseIf(elem) => Op::CloseIf(Elem(elem)),
+        Step::Text(text) => Op::Text(Bytes::from_slice(alloc, text)?),
+        Step::Space => Op::Space,
+        Step::Attr(attr, value) => Op::Attr(attr, Bytes::from_slice(alloc, value)?),
+        Step::Label(label, number) => Op::Label(
+            Bytes::from_slice(alloc, label)?,
+            Bytes::from_slice(alloc, number)?,
+        ),
+        Step::Ref(label) => Op::Ref(Bytes::from_slice(alloc, label)?),
+    })
+}
+
+// A text as it is; an element as its name, `!` where it gets an id, its labels, attributes and target, and its children in
+// brackets.
+fn show(content: &Content, node: &Node<'_>, into: &mut Bytes) -> Result<(), AllocError> {
+    match node {
+        Node::Text(text) => into.extend(*text),
+        Node::Element(head, children) => {
+            into.extend(content.name(head.elem))?;
+            if head.identified {
+                into.extend(b"!")?;
+            }
+            for tag in head.labels {
+                into.extend(b"#")?;
+                into.extend(tag.label)?;
+                into.extend(tag.number)?;
+            }
+            for at in 0..2 {
+                if let Some(value) = node.attr(at) {
+                    into.extend(b"=")?;
+                    into.extend(value)?;
+                }
+            }
+            if let Some(target) = head.target {
+                into.extend(b">")?;
+                into.extend(target)?;
+            }
+            into.extend(b"[")?;
+            for child in *children {
+                show(content, child, into)?;
+            }
+            into.extend(b"]")
+        }
+    }
+}
+
+// The tree that is shown, or the number of the fault and its two names.
+fn shown(alloc: Global, content: &Content, ops: &Ops) -> Result<Bytes, AllocError> {
+    let arena = Bump::new(alloc);
+    let mut into = Bytes::new(alloc);
+    match build(alloc, &arena, ops, content) {
+        Ok(tree) => show(content, tree.root(), &mut into)?,
+        Err(BuildFault::NoMemory) => into.extend(b"no memory")?,
+        Err(BuildFault::Model(fault)) => {
+            into.extend(&[48 + fault.code % 10, 32])?;
+            into.extend(fault.child.as_slice())?;
+            into.extend(b" ")?;
+            into.extend(fault.parent.as_slice())?;
+        }
+    }
+    Ok(into)
+}
+
+fn check(
+    rt: &impl Abort,
+    alloc: Global,
+    content: &Content,
+    steps: &[Step],
+    want: &str,
+) -> Result<(), Fail> {
+    let mut ops = Ops::new(alloc);
+    for step in steps {
+        ops.push(op(alloc, *step)?)?;
+    }
+    let got = shown(alloc, content, &ops)?;
+    assert_eq!(rt; got.as_slice(), want.as_bytes(), "{want}");
+    Ok(())
+}
+
+#[test]
+fn elements_open_and_close_between(rt: HostRuntime) -> Result<(), Fail> {
+    let content = small_model(rt.alloc())?;
+    let rows: [(&[Step], &str); 5] = [
+        (
+            &[Step::Open(TABULAR), Step::Text(b"x"), Step::Close(TABULAR)],
+            "document![tabular[tr[td[x]]]]",
+        ),
+        (&[Step::Text(b"x")], "document![p[x]]"),
+        (
+            &[
+                Step::Text(b""),
+                Step::CloseIf(LIST),
+                Step::Open(BREAK),
+                Step::Close(BREAK),
+            ],
+            "document![p[break[]]]",
+        ),
+        (
+            &[
+                Step::Open(LIST),
+                Step::Open(ITEM),
+                Step::Text(b"x"),
+                Step::Open(ITEM),
+                Step::Close(LIST),
+            ],
+            "document![list[item![p[x]]item![]]]",
+        ),
+        (
+            &[
+                Step::Open(LIST),
+                Step::Open(ITEM),
+                Step::Text(b"x"),
+                Step::Open(LIST),
+                Step::Close(LIST),
+                Step::Close(LIST),
+            ],
+            "document![list[item![p[x]list[]]]]",
+        ),
+    ];
+    for (steps, want) in rows {
+        check(&rt, rt.alloc(), &content, steps, want)?;
+    }
+    Ok(())
+}
+
+#[test]
+fn what_does_not_fit_is_a_fault(rt: HostRuntime) -> Result<(), Fail> {
+    let content = small_model(rt.alloc())?;
+    let rows: [(&[Step], &str); 7] = [
+        (&[Step::Open(ITEM)], "1 item document"),
+        (&[Step::Open(LIST), Step::Text(b"x")], "2  list"),
+        (&[Step::Close(P)], "3 p document"),
+        (&[Step::Close(0)], "3 document document"),
+        (&[Step::Open(LIST)], "4 list "),
+        (&[Step::Attr(SPAN, b"x")], "5 span document"),
+        (&[Step::With(P, SPAN, b"x")], "5 span p"),
+    ];
+    for (steps, want) in rows {
+        check(&rt, rt.alloc(), &content, steps, want)?;
+    }
+    Ok(())
+}
+
+#[test]
+fn texts_join_and_lose_spaces(rt: HostRuntime) -> Result<(), Fail> {
+    let content = small_model(rt.alloc())?;
+    let rows: [(&[Step], &str); 3] = [
+        (
+            &[
+                Step::Space,
+                Step::Text(b" a"),
+                Step::Space,
+                Step::Text(b"b"),
+                Step::Space,
+            ],
+            "document![p[a b]]",
+        ),
+        (
+            &[
+                Step::Open(P),
+                Step::Space,
+                Step::Open(BREAK),
+                Step::Close(BREAK),
+                Step::Space,
+                Step::Text(b"x"),
+            ],
+            "document![p[break[] x]]",
+        ),
+        (&[Step::Open(P), Step::Space], "document![p[]]"),
+    ];
+    for (steps, want) in rows {
+        check(&rt, rt.alloc(), &content, steps, want)?;
+    }
+    Ok(())
+}
+
+#[test]
+fn attributes_labels_and_references_find_their_element(rt: HostRuntime) -> Result<(), Fail> {
+    let content = small_model(rt.alloc())?;
+    let rows: [(&[Step], &str); 5] = [
+        (
+            &[Step::With(TD, SPAN, b"2"), Step::Text(b"x")],
+            "1 td document",
+        ),
+        (
+            &[
+                Step::Open(TABULAR),
+                Step::With(TD, SPAN, b"2"),
+                Step::Attr(SPAN, b"3"),
+                Step::Close(TABULAR),
+            ],
+            "document![tabular[tr[td=3[]]]]",
+        ),
+        (
+            &[
+                Step::Open(LIST),
+                Step::With(ITEM, NUMBER, b"1"),
+                Step::Text(b"x"),
+                Step::Attr(NUMBER, b"2"),
+                Step::Label(b"a", b"1"),
+                Step::Label(b"b", b"2"),
+                Step::Close(LIST),
+            ],
+            "document![list[item!#a1#b2=2[p[x]]]]",
+        ),
+        (
+            &[
+                Step::Text(b"x"),
+                Step::Label(b"a", b""),
+                Step::Open(LIST),
+                Step::Open(ITEM),
+                Step::Label(b"a", b"1"),
+                Step::Close(LIST),
+            ],
+            "document!#a[p[x]list[item!#a1[]]]",
+        ),
+        (
+            &[Step::Text(b"x"), Step::Ref(b"a"), Step::Text(b"y")],
+            "document![p[xref>a[]y]]",
+        ),
+    ];
+    for (steps, want) in rows {
+        check(&rt, rt.alloc(), &content, steps, want)?;
+    }
+    Ok(())
+}
+
+fn quotes(alloc: Global, content: &Content, count: usize) -> Result<Bytes, AllocError> {
+    let mut ops = Ops::new(alloc);
+    for _k in 0..count {
+        ops.push(Op::Open(Elem(QUOTE), Sets::new(alloc)))?;
+    }
+    shown(alloc, content, &ops)
+}
+
+#[test]
+fn two_hundred_elements_may_be_open(rt: HostRuntime) -> Result<(), Fail> {
+    let content = small_model(rt.alloc())?;
+    let deep = quotes(rt.alloc(), &content, 199)?;
+    assert_eq!(rt; deep.as_slice(), b"4 quote ".as_slice());
+    let deeper = quotes(rt.alloc(), &content, 200)?;
+    assert_eq!(rt; deeper.as_slice(), b"6 quote quote".as_slice());
+    Ok(())
+}

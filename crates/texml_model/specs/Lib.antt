@@ -1,0 +1,5 @@
+pub mod Chain
+pub mod Rules
+pub mod Levels
+pub mod Prepared
+pub mod Small

@@ -1,0 +1,4 @@
+pub mod Owning
+pub mod Walks
+pub mod Leading
+pub mod Rows

@@ -1,0 +1,5 @@
+pub mod Refs
+pub mod Linked
+pub mod Links
+pub mod Found
+pub mod Small
