@@ -107,8 +107,8 @@ Opens old new name (Ok None) = IsMissing old new name
 Opens old new name (Err e) = new ≡ old
 
 -- what reading from an id into a buffer does
-abbrev pub Reads : Shelf → Shelf → ℕ → Result ℕ Trouble → List ℕ → Type 0
-Reads old new id result buffer = MatchResult result (λ n. (n ≤ length buffer) × IsRead old new id (take n buffer)) (λ _. new ≡ old)
+abbrev pub ReadsFile : Shelf → Shelf → ℕ → Result ℕ Trouble → List ℕ → Type 0
+ReadsFile old new id result buffer = MatchResult result (λ n. (n ≤ length buffer) × IsRead old new id (take n buffer)) (λ _. new ≡ old)
 
 -- a count of faults is as before where a call on files didn't fail
 abbrev pub KeptUnlessFailed : {T : Type 0} → ℕ → ℕ → Result T Trouble → Type 0

@@ -3,7 +3,7 @@ ghost use Rattle.std.specs.Prelude.{◌≡◌, ◌≢◌, ℕ, ◌≤◌, ◌<�
 ghost use Rattle.std.specs.Io.{ReadsAtMost};
 ghost use Rattle.std.specs.Io.KnownBytes.{ReadConsumes};
 ghost use Rattle.std.specs.IoError.{error_kind};
-ghost use Rattle.texml_base.specs.Outside.{Opens, Reads, IsClosed, HasTroubleCause, in_use};
+ghost use Rattle.texml_base.specs.Outside.{Opens, ReadsFile, IsClosed, HasTroubleCause, in_use};
 ghost use Rattle.texml_base.specs.Rising.{add_up};
 
 use crate::faults::FaultCount;
@@ -94,7 +94,7 @@ impl<R: rt::Files> Files for DiskFiles<R> {
     fn read_file(&mut self, id: u32, into: &mut [u8]) -> Result<usize, Trouble>
         requires open { IsTrue (in_use (folder_shelf self.old).ids id) }
         requires room { 0 < length into.old }
-        ensures read { Reads (folder_shelf self.old) (folder_shelf self.new) id result into.new }
+        ensures read { ReadsFile (folder_shelf self.old) (folder_shelf self.new) id result into.new }
         ensures bytes { ReadConsumes (remaining_at ⟦<R::File as Read>⟧.remaining self.old id)
             (remaining_at ⟦<R::File as Read>⟧.remaining self.new id) result into.new }
         ensures others { (k : ℕ) → k ≢ id

@@ -1,7 +1,7 @@
 //! Files that are opened by name and read through ids.
 ghost use Rattle.std.specs.Prelude.{◌≡◌, ℕ, ◌<◌, length, IsTrue, IsErrOf};
 ghost use Rattle.texml_base.specs.declared.files.Trouble.TheVariants.{NoMemory};
-ghost use Rattle.texml_base.specs.Outside.{Shelf, Opens, Reads, IsClosed, HasTroubleCause, in_use};
+ghost use Rattle.texml_base.specs.Outside.{Shelf, Opens, ReadsFile, IsClosed, HasTroubleCause, in_use};
 
 use std::alloc::{AllocError, AllocFailed, Global};
 
@@ -50,7 +50,7 @@ pub trait Files {
     fn read_file(&mut self, id: u32, into: &mut [u8]) -> Result<usize, Trouble>
         requires open { IsTrue (in_use (shelf self.old).ids id) }
         requires room { 0 < length into.old }
-        ensures read { Reads (shelf self.old) (shelf self.new) id result into.new }
+        ensures read { ReadsFile (shelf self.old) (shelf self.new) id result into.new }
         ensures cause { HasTroubleCause (faults self.old) (faults self.new) result }
         ensures memory { IsErrOf result Trouble.NoMemory → ⊥ };
 

@@ -1,7 +1,7 @@
 //! Files in memory.
 ghost use Rattle.std.specs.Prelude.{◌≡◌, ◌<◌, ◌≤◌, ◌↔◌, length, min, IsTrue, ℕ, List, [], IfOk, OnOk, OnErr, None, Some, IsErrOf, if◌then◌else◌, ◌==◌};
 ghost use Rattle.std.specs.Str.{bytes_eq};
-ghost use Rattle.texml_base.specs.Outside.{Opens, Reads, IsClosed, HasTroubleCause, in_use};
+ghost use Rattle.texml_base.specs.Outside.{Opens, ReadsFile, IsClosed, HasTroubleCause, in_use};
 ghost use Rattle.texml_base.specs.Rising.{add_up};
 
 use crate::faults::{Alarm, FaultCount};
@@ -83,7 +83,7 @@ impl Files for CalmFiles {
     fn read_file(&mut self, id: u32, into: &mut [u8]) -> Result<usize, Trouble>
         requires open { IsTrue (in_use (calm_shelf self.old).ids id) }
         requires room { 0 < length into.old }
-        ensures read { Reads (calm_shelf self.old) (calm_shelf self.new) id result into.new }
+        ensures read { ReadsFile (calm_shelf self.old) (calm_shelf self.new) id result into.new }
         ensures cause { HasTroubleCause (calm_faults self.old) (calm_faults self.new) result }
         ensures memory { IsErrOf result Trouble.NoMemory → ⊥ }
         ensures count { IfOk result (λ n. n ≡ min (min (length ((calm_shelf self.old).left id)) (calm_piece self.old)) (length into.old)) }
@@ -117,7 +117,7 @@ pub struct MemoryFiles {
 impl MemoryFiles {
     ghost use Rattle.texml_base.specs.Memory.{memory_shelf, memory_faults, memory_piece, failing_call, next_call};
 
-    /// No files yet; a read will give at most `piece` bytes. The open or read call of the number `fail_call`, counted from 1, fails; 0 means none.
+    /// No files yet; a read will give at most `piece` bytes. Of the calls that open or read, the first being 1, that of the number `fail_call` fails; none does where it is 0.
     pub fn new(alloc: Global, piece: usize, fail_call: u64) -> Self
         requires { 1 ≤ piece }
         ensures piece { memory_piece result ≡ piece }
@@ -180,7 +180,7 @@ impl Files for MemoryFiles {
     fn read_file(&mut self, id: u32, into: &mut [u8]) -> Result<usize, Trouble>
         requires open { IsTrue (in_use (memory_shelf self.old).ids id) }
         requires room { 0 < length into.old }
-        ensures read { Reads (memory_shelf self.old) (memory_shelf self.new) id result into.new }
+        ensures read { ReadsFile (memory_shelf self.old) (memory_shelf self.new) id result into.new }
         ensures cause { HasTroubleCause (memory_faults self.old) (memory_faults self.new) result }
         ensures memory { IsErrOf result Trouble.NoMemory → ⊥ }
         ensures count { IfOk result (λ n. n ≡ min (min (length ((memory_shelf self.old).left id)) (memory_piece self.old)) (length into.old)) }

@@ -21,7 +21,7 @@ pub trait Sink {
     /// How often the sink has failed. Only a write that fails changes it. It ends at the greatest u64.
     ghost faults: { Self → ℕ };
 
-    /// Appends the piece; or appends a prefix of it and fails, only where the count of faults rose. It takes no memory.
+    /// Appends the piece. Where it fails, what it appended is a first part of the piece, and it fails only where the count of faults rose. It takes no memory.
     fn write(&mut self, piece: &[u8]) -> Result<(), SinkFail>
         ensures written { Takes (ink self.old) (ink self.new) result piece.now }
         ensures cause { HasCause (faults self.old) (faults self.new) result };

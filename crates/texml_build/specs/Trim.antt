@@ -1,5 +1,5 @@
--- What is left of the children of an element flagged `block`: spaces at the start of its first child and at the end of its
--- last one go, where that child is a text, and so does an empty text.
+-- What is left of the children of an element flagged `block`: a text that comes first loses the spaces it begins with, a
+-- text that comes last those it ends with, and an empty text goes.
 use Rattle.std.specs.Prelude.{ℕ, ◌==◌, Bool, true, false, List, [], ◌∷◌, ◌++◌, reverse, if◌then◌else◌}
 use Rattle.texml_tree.specs.Tree.{Tree, text, element}
 

@@ -5,7 +5,7 @@ use Rattle.texml_token.specs.Token.{Token}
 use Rattle.texml_token.specs.Numbers.{Table, token_at, TokenWithin}
 use Rattle.texml_token.specs.declared.tokens.Token.{Token as TokenCode}
 use Rattle.texml_mouth.specs.Mouth.{Spot}
-use Rattle.texml_mouth.specs.declared.State.TheVariants.{NewLine}
+use Rattle.texml_mouth.specs.declared.LineState.TheVariants.{NewLine}
 
 -- a text: its name, where in its loaded line it is, and its lines that aren't loaded
 pub record Page : Type 0 where

@@ -23,7 +23,7 @@ pub fn is_par(token: Token, names: &Names) -> bool
     }
 }
 
-/// Whether a token is `\par` where it may not stand: in an argument of a macro that isn't long, whose delimiter doesn't
+/// Whether a token is `\par` where it may not stand: in an argument of a short macro whose delimiter doesn't
 /// have it.
 pub fn runs_away(long: bool, delimiter: &[Token], token: Token, names: &Names) -> bool
     requires delimiter { TokensWithin (length names.now) delimiter.now }

@@ -11,8 +11,8 @@ AtMost None w = ⊥
 AtMost (Some c) w = UpTo c w
 
 -- every answer of g at e begins with e
-abbrev Begins : (ℕ → Option (List ℕ)) → Type 0
-Begins g = (e : ℕ) (d : List ℕ) → g e ≡ Some d → (c : List ℕ) × (d ≡ e ∷ c)
+abbrev StartsAtItself : (ℕ → Option (List ℕ)) → Type 0
+StartsAtItself g = (e : ℕ) (d : List ℕ) → g e ≡ Some d → (c : List ℕ) × (d ≡ e ∷ c)
 
 map_begins : (e : ℕ) (o : Option (List ℕ)) (d : List ℕ) → option_map (λ c. e ∷ c) o ≡ Some d → (c : List ℕ) × (d ≡ e ∷ c)
 map_begins e None d h = absurd (cc)
@@ -33,7 +33,7 @@ here_by : (o rest : Option (List ℕ)) (w : List ℕ) → AtMost o w → AtMost 
 here_by None rest w h = absurd h
 here_by (Some c) rest w h = h
 
-first_at : (g : ℕ → Option (List ℕ)) → Begins g → (n k e : ℕ) (w : List ℕ) → n ≤ e → e < n + k → AtMost (g e) (e ∷ w) → AtMost (first_some g (range_with_len n k)) (e ∷ w)
+first_at : (g : ℕ → Option (List ℕ)) → StartsAtItself g → (n k e : ℕ) (w : List ℕ) → n ≤ e → e < n + k → AtMost (g e) (e ∷ w) → AtMost (first_some g (range_with_len n k)) (e ∷ w)
 first_at g b n zero e w l h a = absurd (omega arith)
 first_at g b n (suc k) e w l h a = elim (eq-or-lt_of_le l) [
   | inl q ↦ here_by (g n) (first_some g (range_with_len (n + 1) k)) (e ∷ w) (subst (λ (x : ℕ). AtMost (g x) (e ∷ w)) (sym q) a)

@@ -2,7 +2,7 @@
 use Rattle.std.proofs.Common.{◌≡◌, ℕ, Bool, true, cond, List, [], ◌∷◌, Option, Result, Err, refl, sym, ap, subst, ◌∙◌, rules, false, ◌==◌}
 use Rattle.std.proofs.lemmas.Bool.Decides.{nat_tests}
 use Rattle.texml_token.specs.Token.{Named}
-use Rattle.texml_mouth.specs.declared.State.TheVariants.{SkippingBlanks}
+use Rattle.texml_mouth.specs.declared.LineState.TheVariants.{SkippingBlanks}
 use Rattle.texml_mouth.specs.Looked.{look, settled}
 use Rattle.texml_token.specs.Numbers.{Table}
 use Rattle.texml_token.specs.declared.tokens.Token.{Token as TokenCode}

@@ -1,8 +1,8 @@
 -- A token takes a character at least.
 use Rattle.std.proofs.Common.{◌≡◌, ◌≤◌, ◌<◌, ◌+◌, ℕ, List, [], ◌∷◌, length, Bool, true, false, cond, ◌&&◌, ◌==◌, nat_lt, sym, subst, arith}
 use Rattle.texml_token.specs.Token.{Token, Named}
-use Rattle.texml_mouth.specs.declared.State.{State}
-use Rattle.texml_mouth.specs.declared.State.TheVariants.{NewLine, MidLine, SkippingBlanks}
+use Rattle.texml_mouth.specs.declared.LineState.{LineState}
+use Rattle.texml_mouth.specs.declared.LineState.TheVariants.{NewLine, MidLine, SkippingBlanks}
 use Rattle.texml_mouth.specs.Looked.{look, look_at, settled, is_pair, begins_hex, hex_code, turned}
 use Rattle.texml_mouth.specs.Mouth.{Spot, Bite, Gives, Dry, Bad, bite, bites, blank, line_end, name, name_from, word, word_from, Word, no_word, gives}
 use Rattle.texml_mouth.proofs.Looking.{look-front, at_front, settled-length}
@@ -69,17 +69,17 @@ name_falls cats text =
     at (c ∷ tail) h =
         falls_test (cats c == 11) _ _ _ (omega (arith, word-behind cats text)) (omega arith)
 
-line_end_falls : (state : State) (n : ℕ) → Falls (1 + n) (line_end state)
+line_end_falls : (state : LineState) (n : ℕ) → Falls (1 + n) (line_end state)
 line_end_falls NewLine n = omega arith
 line_end_falls MidLine n = omega arith
 line_end_falls SkippingBlanks n = tt
 
-blank_falls : (state : State) (tail : List ℕ) (onward : Bite) → Falls (length tail) onward → Falls (1 + length tail) (blank state tail onward)
+blank_falls : (state : LineState) (tail : List ℕ) (onward : Bite) → Falls (length tail) onward → Falls (1 + length tail) (blank state tail onward)
 blank_falls NewLine tail onward h = falls_more _ _ onward (omega arith) h
 blank_falls MidLine tail onward h = omega arith
 blank_falls SkippingBlanks tail onward h = falls_more _ _ onward (omega arith) h
 
-bite_falls : (cats : ℕ → ℕ) (state : State) (c : ℕ) (tail : List ℕ) (onward : Bite) → Falls (length tail) onward → Falls (1 + length tail) (bite cats state c tail onward)
+bite_falls : (cats : ℕ → ℕ) (state : LineState) (c : ℕ) (tail : List ℕ) (onward : Bite) → Falls (length tail) onward → Falls (1 + length tail) (bite cats state c tail onward)
 bite_falls cats state c tail onward h =
     falls_test (cats c == 0) _ _ _ (name_falls cats tail)
     (falls_test (cats c == 5) _ _ _ (line_end_falls state (length tail))

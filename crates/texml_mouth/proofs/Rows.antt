@@ -2,7 +2,7 @@
 use Rattle.std.proofs.Common.{◌≡◌, ℕ, [], ◌∷◌, if◌then◌else◌, ◌==◌, refl, codes}
 use Rattle.texml_token.specs.Token.{Active, Named}
 use Rattle.texml_token.specs.declared.category.TheConstants.{ESCAPE, END_OF_LINE, SUPERSCRIPT, SPACE, LETTER, OTHER, ACTIVE, INVALID}
-use Rattle.texml_mouth.specs.declared.State.TheVariants.{NewLine, MidLine, SkippingBlanks}
+use Rattle.texml_mouth.specs.declared.LineState.TheVariants.{NewLine, MidLine, SkippingBlanks}
 use Rattle.texml_mouth.specs.Looked.{settled}
 use Rattle.texml_mouth.specs.Mouth.{Dry, Bad, gives, space, bites}
 

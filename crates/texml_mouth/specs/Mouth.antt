@@ -2,13 +2,13 @@
 use Rattle.std.specs.Prelude.{ℕ, List, [], ◌∷◌, if◌then◌else◌, ◌==◌}
 use Rattle.texml_token.specs.Token.{Token, Char, Active, Named, paragraph}
 use Rattle.texml_token.specs.declared.category.TheConstants.{ESCAPE, END_OF_LINE, IGNORED, SPACE, LETTER, ACTIVE, COMMENT, INVALID}
-use Rattle.texml_mouth.specs.declared.State.{State}
-use Rattle.texml_mouth.specs.declared.State.TheVariants.{NewLine, MidLine, SkippingBlanks}
+use Rattle.texml_mouth.specs.declared.LineState.{LineState}
+use Rattle.texml_mouth.specs.declared.LineState.TheVariants.{NewLine, MidLine, SkippingBlanks}
 use Rattle.texml_mouth.specs.Looked.{look}
 
 -- where in a line a reader is: its state, and the characters that are left
 pub record Spot : Type 0 where
-  pub state : State
+  pub state : LineState
   pub tail : List ℕ
 
 -- what a line gives next: a token, and the spot behind it; nothing more; or a character that may not stand there
@@ -17,7 +17,7 @@ pub data Bite : Type 0 where
   Dry : Bite
   Bad : ℕ → Bite
 
-abbrev pub gives : Token → State → List ℕ → Bite
+abbrev pub gives : Token → LineState → List ℕ → Bite
 gives t state tail = Gives t (record { state = state; tail = tail })
 
 -- a space token
@@ -43,7 +43,7 @@ abbrev pub word : (ℕ → ℕ) → List ℕ → Word
 word cats = look cats (no_word []) (word_from cats)
 
 -- the state behind a name of one character that is no letter, by its category
-abbrev pub state_behind : ℕ → State
+abbrev pub state_behind : ℕ → LineState
 state_behind category = if category == SPACE then SkippingBlanks else MidLine
 
 -- the name that begins with a character: the longest word, or a name of one character
@@ -57,19 +57,19 @@ abbrev pub name : (ℕ → ℕ) → List ℕ → Bite
 name cats text = look cats (gives (Named []) SkippingBlanks []) (λ c tail onward. name_from cats (word cats text) c tail) text
 
 -- at an end of line the rest of the line goes
-abbrev pub line_end : State → Bite
+abbrev pub line_end : LineState → Bite
 line_end NewLine = gives paragraph NewLine []
 line_end MidLine = gives space MidLine []
 line_end SkippingBlanks = Dry
 
 -- a blank in the middle of a line is a space, and else the line goes on
-abbrev pub blank : State → List ℕ → Bite → Bite
+abbrev pub blank : LineState → List ℕ → Bite → Bite
 blank NewLine tail onward = onward
 blank MidLine tail onward = gives space SkippingBlanks tail
 blank SkippingBlanks tail onward = onward
 
 -- the case table: what a character gives in a state, before the characters left; where it gives nothing, the line goes on
-abbrev pub bite : (ℕ → ℕ) → State → ℕ → List ℕ → Bite → Bite
+abbrev pub bite : (ℕ → ℕ) → LineState → ℕ → List ℕ → Bite → Bite
 bite cats state c tail onward =
     if cats c == ESCAPE then name cats tail
     else if cats c == END_OF_LINE then line_end state

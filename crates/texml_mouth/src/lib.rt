@@ -11,7 +11,7 @@ ghost use Rattle.std.specs.List.{All};
 ghost use Rattle.std.specs.Char.{IsScalar};
 ghost use Rattle.texml_token.specs.Numbers.{token_at, TokenWithin, Extends, Numbered, with_text};
 ghost use Rattle.texml_token.specs.Token.{Named};
-ghost use Rattle.texml_mouth.specs.declared.State.{State};
+ghost use Rattle.texml_mouth.specs.declared.LineState.{LineState};
 ghost use Rattle.texml_mouth.specs.Looked.{settled, begins_hex, is_hex_digit, hex_value, turned};
 ghost use Rattle.texml_mouth.specs.Mouth.{bites, bite, name, word, state_behind, line_end, Gives, Dry};
 ghost use Rattle.texml_mouth.specs.Seen.{Bitten, answer_at, table_behind, AnswerWithin, fault_after};
@@ -28,7 +28,7 @@ const PAR: [u32; 3] = [112, 97, 114];
 
 /// Where in a line a mouth is: at its start, behind a token, or behind a blank or a word.
 #[derive(Clone, Copy, Debug, PartialEq, Eq)]
-pub enum State {
+pub enum LineState {
     NewLine,
     MidLine,
     SkippingBlanks,
@@ -73,7 +73,7 @@ pub struct Mouth {
     place: usize,
     // A character that stands before the rest of the line, as it was looked at.
     front: Option<u32>,
-    state: State,
+    state: LineState,
     fault: Option<MouthFault>,
 }
 
@@ -92,13 +92,13 @@ impl Mouth {
     /// A mouth at the start of a line.
     pub fn new(line: Line) -> Mouth
         requires { All IsScalar line }
-        ensures { result ≡ record { spot = record { state = State.NewLine; tail = line }; fault = None } }
+        ensures { result ≡ record { spot = record { state = LineState.NewLine; tail = line }; fault = None } }
     {
         Mouth {
             line,
             place: 0,
             front: None,
-            state: State::NewLine,
+            state: LineState::NewLine,
             fault: None,
         }
     }
@@ -167,13 +167,13 @@ impl Mouth {
                 category::END_OF_LINE => return self.line_end(alloc, names),
                 category::IGNORED => {}
                 category::SPACE => {
-                    if self.state() == State::MidLine {
-                        self.go(State::SkippingBlanks);
+                    if self.state() == LineState::MidLine {
+                        self.go(LineState::SkippingBlanks);
                         return Ok(Some(Token::Char(SPACE, category::SPACE)));
                     }
                 }
                 category::ACTIVE => {
-                    self.go(State::MidLine);
+                    self.go(LineState::MidLine);
                     return Ok(Some(Token::Active(c)));
                 }
                 category::COMMENT => {
@@ -182,7 +182,7 @@ impl Mouth {
                 }
                 category::INVALID => return Err(MouthFault::Invalid(c)),
                 category => {
-                    self.go(State::MidLine);
+                    self.go(LineState::MidLine);
                     return Ok(Some(Token::Char(c, category)));
                 }
             }
@@ -205,14 +205,14 @@ impl Mouth {
         ensures given { AnswerWithin (length names.new) result }
     {
         let Some(c) = self.take(codes) else {
-            self.go(State::SkippingBlanks);
+            self.go(LineState::SkippingBlanks);
             return Ok(Some(named(alloc, names, &[])?));
         };
         match codes.category(c) {
             category::LETTER => {
                 let mut text = Line::from_slice(alloc, &[c])?;
                 self.take_letters(codes, &mut text)?;
-                self.go(State::SkippingBlanks);
+                self.go(LineState::SkippingBlanks);
                 Ok(Some(intern(names, &text)?))
             }
             category => {
@@ -252,21 +252,21 @@ impl Mouth {
     {
         self.skip();
         match self.state() {
-            State::NewLine => Ok(Some(named(alloc, names, &PAR)?)),
-            State::MidLine => Ok(Some(Token::Char(SPACE, category::SPACE))),
-            State::SkippingBlanks => Ok(None),
+            LineState::NewLine => Ok(Some(named(alloc, names, &PAR)?)),
+            LineState::MidLine => Ok(Some(Token::Char(SPACE, category::SPACE))),
+            LineState::SkippingBlanks => Ok(None),
         }
     }
 
     // The state.
-    fn state(&self) -> State
+    fn state(&self) -> LineState
         ensures { result ≡ self.now.spot.state }
     {
         self.state
     }
 
     // Goes to a state.
-    fn go(&mut self, state: State)
+    fn go(&mut self, state: LineState)
         ensures { self.new ≡ record { spot = record { state = state; tail = self.old.spot.tail }; fault = self.old.fault } }
     {
         self.state = state;
@@ -338,13 +338,13 @@ impl Mouth {
 }
 
 // The state behind a name of one character, by its category, where it is no letter.
-fn state_behind(category: u8) -> State
+fn state_behind(category: u8) -> LineState
     ensures { result ≡ state_behind category }
 {
     if category == category::SPACE {
-        State::SkippingBlanks
+        LineState::SkippingBlanks
     } else {
-        State::MidLine
+        LineState::MidLine
     }
 }
 

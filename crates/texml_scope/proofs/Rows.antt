@@ -17,7 +17,7 @@ use Rattle.texml_scope.specs.Builtins.{table, builtin_place, is_conditional, fir
 abbrev number : ℕ → Value
 number n = values.Number (pos n)
 
--- \count1=3 { \count1=7 \global\count1=5 \count1=9
+-- 3 outside; inside a group 7, then 5 in all groups, then 9
 abbrev inside : World
 inside = set_local key_eq (keys.Count 1) (number 9) (set_global key_eq (keys.Count 1) (number 5) (set_local key_eq (keys.Count 1) (number 7) (begin_group kinds.Brace (set_local key_eq (keys.Count 1) (number 3) new_world))))
 

@@ -31,7 +31,7 @@ fn global_value_stays(rt: HostRuntime) -> Result<(), Fail> {
     Ok(())
 }
 
-// A body that copies its table for each group would hold 2,000,000,000 entries here.
+// Where each group had a copied table, there would be 2 * 10^9 entries.
 #[test]
 fn many_groups_over_many_keys(rt: HostRuntime) -> Result<(), Fail> {
     let mut steps = Steps::new();

@@ -35,7 +35,7 @@ abbrev pub DefaultFits : {T : Type 0} → Option (List T) → List (PieceOf T) �
 DefaultFits None ps = Unit {0}
 DefaultFits (Some list) ps = BeginsWithSlot ps
 
--- the parameters are numbered from 1 in order, at most nine, and a default has its place
+-- at most nine parameters stand in the order of their numbers, from 1 on, and a default has its place
 pub record IsParameterText {T : Type 0} (p : Params T) : Type 0 where
   pub numbered : AreNumberedFrom 1 p.pieces
   pub few : slots_in p.pieces ≤ MOST_PARAMETERS

@@ -13,8 +13,8 @@ use std::alloc::AllocError;
 
 /// Appends how a token is spelled, in UTF-8, as `\string` spells it (The TeXbook, chapter 7): a
 /// character itself, also an active one; a name with the escape character before it, where `escape` is
-/// the code of a character. The empty name is `csname` and `endcsname`, each with that character before
-/// it. The fixed `\relax` is spelled as the name `relax`.
+/// the code of a character. The empty name is the words `csname` and `endcsname`, the escape character
+/// before both. The fixed `\relax` is spelled as the name `relax`.
 ///
 /// # Errors
 ///
@@ -35,8 +35,8 @@ pub fn spell(token: Token, escape: i32, names: &Names, into: &mut Bytes) -> Resu
 }
 
 /// Appends how a list of tokens is shown, in UTF-8 (The TeXbook, chapters 7 and 8): each character
-/// itself, but the codes below 32 and 127 as `^^` and the character whose code is greater or less by 64,
-/// those of names too. Each name has `\` before it, and a space after it where it is longer than one
+/// itself, but a control character as `^^` and the character whose code is greater or less by 64,
+/// in names too. Each name has `\` before it, and a space after it where it is longer than one
 /// character or is one ASCII letter.
 ///
 /// # Errors

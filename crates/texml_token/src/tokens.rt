@@ -11,7 +11,7 @@ use std::rc::Rc;
 #[derive(Clone, Copy, Debug, PartialEq, Eq, PartialOrd, Ord, Hash)]
 pub struct Name(pub usize);
 
-/// A token: a character with its category, an active character, a name, or, in the body of a macro, the
+/// A token: a name, an active character, another character with its category, or, in the body of a macro, the
 /// place of a parameter by its number.
 #[derive(Clone, Copy, Debug, PartialEq, Eq, PartialOrd, Ord, Hash)]
 pub enum Token {

@@ -7,7 +7,7 @@ use Rattle.texml_token.specs.Token.{text_eq}
 use Rattle.texml_tree.specs.Tree.{Mark, Head, Tree, Trees, text, element, none, more}
 use Rattle.texml_model.specs.Rules.{Rules}
 
--- the elements of a tree in document order: an element before its children
+-- all elements of a tree, each before those inside it
 abbrev mutual
   pub heads : Tree → List Head
   heads (text t) = []

@@ -1,6 +1,6 @@
 use Rattle.std.proofs.Common.{rules, ◌≡◌, [], arith, sym, ◌∙◌, ap, Err}
 use Rattle.texml_token.specs.Token.{Named}
-use Rattle.texml_mouth.specs.declared.State.TheVariants.{SkippingBlanks}
+use Rattle.texml_mouth.specs.declared.LineState.TheVariants.{SkippingBlanks}
 use Rattle.texml_mouth.specs.declared.MouthFault.TheVariants.{NoMemory}
 use Rattle.texml_mouth.specs.Mouth.{gives, name}
 use Rattle.texml_mouth.proofs.Biting.{name_word, name_other, name_end, name_gives, no_memory}
