@@ -13,10 +13,11 @@ use std::alloc::Global;
 use std::io::{ErrorKind, Read};
 use std::{fs, io, rt};
 
+/// An open file of the real folder, over anything that can be read.
 #[derive(Drop)]
 pub struct DiskFile<F> {
     pub file: F,
-    // How many bytes it may still give.
+    /// How many bytes it may still give.
     pub budget: u64,
 }
 
@@ -128,7 +129,11 @@ impl<R: rt::Files> Files for DiskFiles<R> {
 }
 
 impl<F: Read> DiskFile<F> {
-    // Gives the next bytes, or fails and loses none.
+    /// Gives the next bytes to the start of `into` and answers their number. A read that the system interrupts is made again.
+    ///
+    /// # Errors
+    ///
+    /// Where the system fails, or no more bytes may be given. Then no byte is lost.
     pub fn give(&mut self, into: &mut [u8]) -> io::Result<usize>
         ensures budget { MatchResult result (λ n. (n ≤ length into.new) × (self.new.budget + n ≡ self.old.budget)) (λ _. self.new.budget ≡ self.old.budget) }
         ensures bytes { ReadConsumes (F.remaining self.old.file) (F.remaining self.new.file) result into.new }

@@ -17,11 +17,8 @@ mod reading;
 mod sink;
 
 pub use counters::{Budget, Steps};
-pub use disk::DiskFiles;
+pub use disk::{DiskFile, DiskFiles};
 pub use files::{Files, Trouble};
 pub use memory_files::{CalmFiles, MemoryFiles};
 pub use memory_sinks::{CalmSink, MemorySink};
 pub use sink::{Sink, SinkFail, StreamSink};
-
-#[cfg(test)]
-mod tests;

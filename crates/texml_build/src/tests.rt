@@ -240,152 +240,148 @@ fn check(
     Ok(())
 }
 
-#[test]
-fn elements_open_and_close_between(rt: HostRuntime) -> Result<(), Fail> {
-    let content = small_model(rt.alloc())?;
-    let rows: [(&[Step], &str); 5] = [
-        (
-            &[Step::Open(TABULAR), Step::Text(b"x"), Step::Close(TABULAR)],
-            "document![tabular[tr[td[x]]]]",
-        ),
-        (&[Step::Text(b"x")], "document![p[x]]"),
-        (
-            &[
-                Step::Text(b""),
-                Step::CloseIf(LIST),
-                Step::Open(BREAK),
-                Step::Close(BREAK),
-            ],
-            "document![p[break[]]]",
-        ),
-        (
-            &[
-                Step::Open(LIST),
-                Step::Open(ITEM),
-                Step::Text(b"x"),
-                Step::Open(ITEM),
-                Step::Close(LIST),
-            ],
-            "document![list[item![p[x]]item![]]]",
-        ),
-        (
-            &[
-                Step::Open(LIST),
-                Step::Open(ITEM),
-                Step::Text(b"x"),
-                Step::Open(LIST),
-                Step::Close(LIST),
-                Step::Close(LIST),
-            ],
-            "document![list[item![p[x]list[]]]]",
-        ),
-    ];
-    for (steps, want) in rows {
-        check(&rt, rt.alloc(), &content, steps, want)?;
+fn check_all(rt: &impl Abort, alloc: Global, rows: &[(&[Step], &str)]) -> Result<(), Fail> {
+    let content = small_model(alloc)?;
+    for row in rows {
+        check(rt, alloc, &content, row.0, row.1)?;
     }
     Ok(())
 }
+
+const BETWEEN: [(&[Step], &str); 5] = [
+    (
+        &[Step::Open(TABULAR), Step::Text(b"x"), Step::Close(TABULAR)],
+        "document![tabular[tr[td[x]]]]",
+    ),
+    (&[Step::Text(b"x")], "document![p[x]]"),
+    (
+        &[
+            Step::Text(b""),
+            Step::CloseIf(LIST),
+            Step::Open(BREAK),
+            Step::Close(BREAK),
+        ],
+        "document![p[break[]]]",
+    ),
+    (
+        &[
+            Step::Open(LIST),
+            Step::Open(ITEM),
+            Step::Text(b"x"),
+            Step::Open(ITEM),
+            Step::Close(LIST),
+        ],
+        "document![list[item![p[x]]item![]]]",
+    ),
+    (
+        &[
+            Step::Open(LIST),
+            Step::Open(ITEM),
+            Step::Text(b"x"),
+            Step::Open(LIST),
+            Step::Close(LIST),
+            Step::Close(LIST),
+        ],
+        "document![list[item![p[x]list[]]]]",
+    ),
+];
+
+#[test]
+fn elements_open_and_close_between(rt: HostRuntime) -> Result<(), Fail> {
+    check_all(&rt, rt.alloc(), &BETWEEN)
+}
+
+const MISFITS: [(&[Step], &str); 7] = [
+    (&[Step::Open(ITEM)], "1 item document"),
+    (&[Step::Open(LIST), Step::Text(b"x")], "2  list"),
+    (&[Step::Close(P)], "3 p document"),
+    (&[Step::Close(0)], "3 document document"),
+    (&[Step::Open(LIST)], "4 list "),
+    (&[Step::Attr(SPAN, b"x")], "5 span document"),
+    (&[Step::With(P, SPAN, b"x")], "5 span p"),
+];
 
 #[test]
 fn what_does_not_fit_is_a_fault(rt: HostRuntime) -> Result<(), Fail> {
-    let content = small_model(rt.alloc())?;
-    let rows: [(&[Step], &str); 7] = [
-        (&[Step::Open(ITEM)], "1 item document"),
-        (&[Step::Open(LIST), Step::Text(b"x")], "2  list"),
-        (&[Step::Close(P)], "3 p document"),
-        (&[Step::Close(0)], "3 document document"),
-        (&[Step::Open(LIST)], "4 list "),
-        (&[Step::Attr(SPAN, b"x")], "5 span document"),
-        (&[Step::With(P, SPAN, b"x")], "5 span p"),
-    ];
-    for (steps, want) in rows {
-        check(&rt, rt.alloc(), &content, steps, want)?;
-    }
-    Ok(())
+    check_all(&rt, rt.alloc(), &MISFITS)
 }
+
+const SPACES: [(&[Step], &str); 3] = [
+    (
+        &[
+            Step::Space,
+            Step::Text(b" a"),
+            Step::Space,
+            Step::Text(b"b"),
+            Step::Space,
+        ],
+        "document![p[a b]]",
+    ),
+    (
+        &[
+            Step::Open(P),
+            Step::Space,
+            Step::Open(BREAK),
+            Step::Close(BREAK),
+            Step::Space,
+            Step::Text(b"x"),
+        ],
+        "document![p[break[] x]]",
+    ),
+    (&[Step::Open(P), Step::Space], "document![p[]]"),
+];
 
 #[test]
 fn texts_join_and_lose_spaces(rt: HostRuntime) -> Result<(), Fail> {
-    let content = small_model(rt.alloc())?;
-    let rows: [(&[Step], &str); 3] = [
-        (
-            &[
-                Step::Space,
-                Step::Text(b" a"),
-                Step::Space,
-                Step::Text(b"b"),
-                Step::Space,
-            ],
-            "document![p[a b]]",
-        ),
-        (
-            &[
-                Step::Open(P),
-                Step::Space,
-                Step::Open(BREAK),
-                Step::Close(BREAK),
-                Step::Space,
-                Step::Text(b"x"),
-            ],
-            "document![p[break[] x]]",
-        ),
-        (&[Step::Open(P), Step::Space], "document![p[]]"),
-    ];
-    for (steps, want) in rows {
-        check(&rt, rt.alloc(), &content, steps, want)?;
-    }
-    Ok(())
+    check_all(&rt, rt.alloc(), &SPACES)
 }
+
+const MARKS: [(&[Step], &str); 5] = [
+    (
+        &[Step::With(TD, SPAN, b"2"), Step::Text(b"x")],
+        "1 td document",
+    ),
+    (
+        &[
+            Step::Open(TABULAR),
+            Step::With(TD, SPAN, b"2"),
+            Step::Attr(SPAN, b"3"),
+            Step::Close(TABULAR),
+        ],
+        "document![tabular[tr[td=3[]]]]",
+    ),
+    (
+        &[
+            Step::Open(LIST),
+            Step::With(ITEM, NUMBER, b"1"),
+            Step::Text(b"x"),
+            Step::Attr(NUMBER, b"2"),
+            Step::Label(b"a", b"1"),
+            Step::Label(b"b", b"2"),
+            Step::Close(LIST),
+        ],
+        "document![list[item!#a1#b2=2[p[x]]]]",
+    ),
+    (
+        &[
+            Step::Text(b"x"),
+            Step::Label(b"a", b""),
+            Step::Open(LIST),
+            Step::Open(ITEM),
+            Step::Label(b"a", b"1"),
+            Step::Close(LIST),
+        ],
+        "document!#a[p[x]list[item!#a1[]]]",
+    ),
+    (
+        &[Step::Text(b"x"), Step::Ref(b"a"), Step::Text(b"y")],
+        "document![p[xref>a[]y]]",
+    ),
+];
 
 #[test]
 fn attributes_labels_and_references_find_their_element(rt: HostRuntime) -> Result<(), Fail> {
-    let content = small_model(rt.alloc())?;
-    let rows: [(&[Step], &str); 5] = [
-        (
-            &[Step::With(TD, SPAN, b"2"), Step::Text(b"x")],
-            "1 td document",
-        ),
-        (
-            &[
-                Step::Open(TABULAR),
-                Step::With(TD, SPAN, b"2"),
-                Step::Attr(SPAN, b"3"),
-                Step::Close(TABULAR),
-            ],
-            "document![tabular[tr[td=3[]]]]",
-        ),
-        (
-            &[
-                Step::Open(LIST),
-                Step::With(ITEM, NUMBER, b"1"),
-                Step::Text(b"x"),
-                Step::Attr(NUMBER, b"2"),
-                Step::Label(b"a", b"1"),
-                Step::Label(b"b", b"2"),
-                Step::Close(LIST),
-            ],
-            "document![list[item!#a1#b2=2[p[x]]]]",
-        ),
-        (
-            &[
-                Step::Text(b"x"),
-                Step::Label(b"a", b""),
-                Step::Open(LIST),
-                Step::Open(ITEM),
-                Step::Label(b"a", b"1"),
-                Step::Close(LIST),
-            ],
-            "document!#a[p[x]list[item!#a1[]]]",
-        ),
-        (
-            &[Step::Text(b"x"), Step::Ref(b"a"), Step::Text(b"y")],
-            "document![p[xref>a[]y]]",
-        ),
-    ];
-    for (steps, want) in rows {
-        check(&rt, rt.alloc(), &content, steps, want)?;
-    }
-    Ok(())
+    check_all(&rt, rt.alloc(), &MARKS)
 }
 
 fn quotes(alloc: Global, content: &Content, count: usize) -> Result<Bytes, AllocError> {

@@ -21,6 +21,3 @@ pub use engine::{ESCAPE, Engine};
 pub use laws::{always_decides, decides_once};
 pub use rest::Read;
 pub use stop::Stop;
-
-#[cfg(test)]
-mod engine_tests;

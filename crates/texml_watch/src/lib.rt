@@ -14,6 +14,3 @@ pub use lines::Lines;
 pub use nobody::Nobody;
 pub use record::Record;
 pub use teller::Teller;
-
-#[cfg(test)]
-mod tests;

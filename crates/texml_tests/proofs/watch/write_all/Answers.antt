@@ -2,7 +2,7 @@ use Rattle.std.proofs.Common.{rules}
 use Rattle.std.proofs.lemmas.Result.{on_ok_weaker}
 use Rattle.texml_watch.specs.Lending.{lent_by}
 use Rattle.texml_watch.proofs.Hearing.{Wrote-trace}
-use Rattle.texml_watch.proofs.tests.write_all.Goals as goal
+use Rattle.texml_tests.proofs.watch.write_all.Goals as goal
 
 pub returns : goal.returns
 returns g c =

@@ -1,8 +1,8 @@
 //! What no clause says: that the calls answer with ample memory, and that groups keep no copies.
 
-use super::*;
 use std::test::Fail;
 use texml_base::Steps;
+use texml_scope::*;
 use texml_token::{Line, Names, Token, Tokens};
 
 #[test]

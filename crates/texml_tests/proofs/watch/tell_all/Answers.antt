@@ -2,7 +2,7 @@ use Rattle.std.proofs.Common.{get_or, take, subst, add-one}
 use Rattle.std.proofs.Math.Seq.{take-suc}
 use Rattle.texml_watch.specs.declared.record.Record.{Record}
 use Rattle.texml_watch.proofs.Hearing.{AllHeard-more}
-use Rattle.texml_watch.proofs.tests.tell_all.Goals as goal
+use Rattle.texml_tests.proofs.watch.tell_all.Goals as goal
 
 pub loop-news-preserved : goal.loop-news-preserved
 loop-news-preserved g c =

@@ -1,11 +1,11 @@
 //! Values from outside: dimensions that are read and printed, and numbers at their bounds.
 
-use crate::{
+use std::process::Abort;
+use std::test::Fail;
+use texml_fixed::{
     Amount, Glue, MAX_DIMENSION, MAX_NUMBER, NumFault, Order, Scaled, Unit, add, add_digit,
     of_decimal, over, times,
 };
-use std::process::Abort;
-use std::test::Fail;
 
 #[test]
 fn decimals_are_measured(rt: HostRuntime) -> Result<(), Fail> {

@@ -1,9 +1,8 @@
-use super::*;
-use crate::disk::DiskFile;
 use std::fs::OpenOptions;
 use std::io::{Error, ErrorKind, Read, Write};
 use std::test::Fail;
 use std::{env, fs, io};
+use texml_base::*;
 
 // The path of a file in the folder of temporary files.
 fn temporary(rt: &HostRuntime, name: &str) -> Result<String, Fail> {

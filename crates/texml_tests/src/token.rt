@@ -3,14 +3,14 @@
 ghost use Rattle.std.specs.Prelude.{◌≤◌, IfOk, length};
 ghost use Rattle.texml_token.specs.Numbers.{TokenWithin};
 
-use crate::category::{LETTER, OTHER};
-use crate::fault_code::{DEPTH, UNDEFINED, name_of};
-use crate::{
-    ByteList, Bytes, Fault, Line, Name, Names, Params, Piece, Pieces, Token, Tokens, show, spell,
-};
 use std::alloc::Global;
 use std::process::Abort;
 use std::test::Fail;
+use texml_token::category::{LETTER, OTHER};
+use texml_token::fault_code::{DEPTH, UNDEFINED, name_of};
+use texml_token::{
+    ByteList, Bytes, Fault, Line, Name, Names, Params, Piece, Pieces, Token, Tokens, show, spell,
+};
 
 // The names `foo`, `a`, `%`, the one of the code 13, and the empty one, numbered from 1 to 5.
 const TEXTS: [&[u32]; 5] = [&[102, 111, 111], &[97], &[37], &[13], &[]];

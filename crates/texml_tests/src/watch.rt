@@ -5,11 +5,11 @@ ghost use Rattle.texml_base.specs.Outside.{inked};
 ghost use Rattle.texml_watch.specs.Telling.{AllHeard};
 ghost use Rattle.texml_watch.specs.Trace.{trace};
 
-use super::*;
 use std::alloc::{AllocError, Global};
 use std::test::Fail;
 use texml_base::{MemorySink, Sink, Trouble};
 use texml_token::Bytes;
+use texml_watch::*;
 
 // Tells two records, to any teller.
 fn tell_both<T: Teller>(teller: &mut T, first: &Record, second: &Record) -> Result<(), Trouble>
