@@ -1,22 +1,15 @@
 -- The definitions on small lists of operations.
-use Rattle.std.proofs.Common.{◌≡◌, refl, sym, subst, ℕ, Bool, true, false, List, [], ◌∷◌, None, Some, Ok, Err}
+use Rattle.std.proofs.Common.{◌≡◌, refl, ℕ, Bool, true, false, List, [], ◌∷◌, None, Some, Ok, Err}
 use Rattle.std.specs.Prelude.{codes}
 use Rattle.texml_tree.specs.declared.table.Elem.{Elem}
-use Rattle.texml_tree.specs.declared.table.Elements.{Elements}
 use Rattle.texml_tree.specs.declared.ops.Op.TheVariants.{Open, Close, Text, Attr, Label, Ref}
 use Rattle.texml_tree.specs.declared.model_fault.TheConstants.{NO_PLACE, NOTHING_TO_CLOSE, UNCLOSED, BAD_ATTRIBUTE}
 use Rattle.texml_tree.specs.Tree.{Tree, text, element, trees}
 use Rattle.texml_model.specs.Chain.{chain_between}
-use Rattle.texml_model.specs.Rules.{IsContentModel, rules_of}
+use Rattle.texml_model.specs.Rules.{rules_of}
 use Rattle.texml_build.specs.Brackets.{fault_of}
 use Rattle.texml_build.specs.Matched.{built}
 use Rattle.texml_build.specs.Small.{small}
-
-small_is_model : IsContentModel small
-small_is_model = record { names = refl; root = refl; held = refl; attributes = refl; attrs = refl; void = refl }
-
-pub is_model : (elements : Elements) → elements ≡ small → IsContentModel elements
-is_model elements h = subst IsContentModel (sym h) small_is_model
 
 abbrev at : ℕ → Elem
 at e = record { 0 = e }

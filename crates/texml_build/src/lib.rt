@@ -13,6 +13,3 @@ mod trim;
 
 pub use building::{build, every_tree_is_valid};
 pub use fault::BuildFault;
-
-#[cfg(test)]
-mod tests;

@@ -11,6 +11,3 @@ mod skipping;
 
 pub use limits::{Allow, Bound, Conds, Word};
 pub use skipping::{DEEPEST, Skip, SkipStep};
-
-#[cfg(test)]
-mod tests;

@@ -15,6 +15,3 @@ mod shape;
 pub use arg_match::{ArgMatch, Fed, MatchFault};
 pub use args::Args;
 pub use shape::Shape;
-
-#[cfg(test)]
-mod tests;

@@ -1,9 +1,23 @@
 -- The definitions computed on a small table.
-use Rattle.std.proofs.Common.{◌≡◌, List, [], ◌∷◌, true, false, Some, None, refl, sym, subst, codes}
+use Rattle.std.proofs.Common.{◌≡◌, List, [], ◌∷◌, true, false, Some, None, refl, codes}
 use Rattle.texml_tree.specs.declared.table.Elements.{Elements}
-use Rattle.texml_model.specs.Small.{small}
 use Rattle.texml_model.specs.Chain.{chain_between}
 use Rattle.texml_model.specs.Rules.{attr_number, attrs_of, held, holding_in, rules_of, IsContentModel}
+use Rattle.texml_tree.specs.declared.table.ElementLine.{ElementLine}
+
+-- rows and cells open by themselves, and so do `p` and `q`
+abbrev small : Elements
+small = record {
+  lines =
+      record { name = codes "document"; tag = codes "main"; class = None; flags = record { text = false; block = false; opens = false; closes = false; id = true; toc = false; void = false }; holds = codes "tabular" ∷ codes "tr" ∷ codes "p" ∷ codes "q" ∷ []; attrs = [] }
+      ∷ record { name = codes "tabular"; tag = codes "table"; class = None; flags = record { text = false; block = false; opens = false; closes = false; id = false; toc = false; void = false }; holds = codes "tr" ∷ []; attrs = [] }
+      ∷ record { name = codes "tr"; tag = codes "tr"; class = None; flags = record { text = false; block = false; opens = true; closes = true; id = false; toc = false; void = false }; holds = codes "td" ∷ []; attrs = [] }
+      ∷ record { name = codes "td"; tag = codes "td"; class = Some (codes "wide"); flags = record { text = true; block = true; opens = true; closes = true; id = false; toc = false; void = false }; holds = []; attrs = codes "span" ∷ codes "number" ∷ [] }
+      ∷ record { name = codes "p"; tag = codes "p"; class = None; flags = record { text = true; block = true; opens = true; closes = true; id = false; toc = false; void = false }; holds = []; attrs = codes "number" ∷ [] }
+      ∷ record { name = codes "q"; tag = codes "p"; class = None; flags = record { text = true; block = true; opens = true; closes = true; id = false; toc = false; void = false }; holds = []; attrs = [] }
+      ∷ [];
+  attributes = codes "span" ∷ codes "number" ∷ [];
+}
 
 pub small_is_model : IsContentModel small
 small_is_model = record { names = refl; root = refl; held = refl; attributes = refl; attrs = refl; void = refl }
@@ -38,6 +52,3 @@ shortest_before_first = refl
 pub nothing_leads_there : chain_between (holding_in small) 4 (Some 3) ≡ None
 unfolding chain_between
 nothing_leads_there = refl
-
-pub is_model : (elements : Elements) → elements ≡ small → IsContentModel elements
-is_model elements h = subst IsContentModel (sym h) small_is_model

@@ -2,4 +2,3 @@ pub mod Chain
 pub mod Rules
 pub mod Levels
 pub mod Prepared
-pub mod Small

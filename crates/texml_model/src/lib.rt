@@ -13,6 +13,3 @@ mod places;
 
 pub use content::Content;
 pub use laws::chains_are_first;
-
-#[cfg(test)]
-mod tests;

@@ -24,6 +24,3 @@ pub use looked::looked_at;
 pub use looks::{Held, Look, Quantity};
 pub use measure::DimenScan;
 pub use steps::{Scan, ScanFault, ScanStep};
-
-#[cfg(test)]
-mod tests;

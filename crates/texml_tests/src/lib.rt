@@ -7,18 +7,34 @@
 #![tactic(auto)]
 
 #[cfg(test)]
+mod arguments;
+#[cfg(test)]
 mod base;
+#[cfg(test)]
+mod build;
+#[cfg(test)]
+mod cond;
 #[cfg(test)]
 mod expand;
 #[cfg(test)]
 mod fixed;
 #[cfg(test)]
+mod model;
+#[cfg(test)]
 mod mouth;
 #[cfg(test)]
+mod scan;
+#[cfg(test)]
 mod scope;
+#[cfg(test)]
+mod small;
 #[cfg(test)]
 mod text;
 #[cfg(test)]
 mod token;
 #[cfg(test)]
+mod tree;
+#[cfg(test)]
 mod watch;
+#[cfg(test)]
+mod xref;

@@ -14,6 +14,3 @@ pub use model_fault::ModelFault;
 pub use ops::{Op, Ops, Sets};
 pub use table::{Elem, ElementLine, ElementLines, Elements, Flags};
 pub use tree::{Attr, Head, Node, Tag, Tree, element, leaf};
-
-#[cfg(test)]
-mod tests;

@@ -1,9 +1,6 @@
 -- The definitions computed on a small tree.
-use Rattle.std.proofs.Common.{◌≡◌, [], ◌∷◌, true, false, Option, None, Some, refl, sym, subst, ℕ, List, codes}
-use Rattle.texml_tree.specs.declared.table.Elements.{Elements}
+use Rattle.std.proofs.Common.{◌≡◌, [], ◌∷◌, true, false, Option, None, Some, refl, ℕ, List, codes}
 use Rattle.texml_tree.specs.Tree.{Mark, Tree, text, element, trees}
-use Rattle.texml_model.specs.Rules.{IsContentModel}
-use Rattle.texml_xref.specs.Small.{small}
 use Rattle.texml_xref.specs.Refs.{LinkedTree, links_in, ids_in}
 
 abbrev mark : List ℕ → List ℕ → Mark
@@ -29,9 +26,3 @@ four_ids = refl
 
 last_element_and_last_mark : links_in tree ≡ Some (record { owner = 2; number = codes "2" }) ∷ Some (record { owner = 3; number = codes "4" }) ∷ None ∷ None ∷ []
 last_element_and_last_mark = refl
-
-pub small_is_model : IsContentModel small
-small_is_model = record { names = refl; root = refl; held = refl; attributes = refl; attrs = refl; void = refl }
-
-pub is_model : (elements : Elements) → elements ≡ small → IsContentModel elements
-is_model elements h = subst IsContentModel (sym h) small_is_model

@@ -2,4 +2,3 @@ pub mod Refs
 pub mod Linked
 pub mod Links
 pub mod Found
-pub mod Small

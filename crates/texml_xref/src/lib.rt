@@ -13,6 +13,3 @@ mod walk;
 
 pub use linked::Linked;
 pub use linking::resolve;
-
-#[cfg(test)]
-mod tests;

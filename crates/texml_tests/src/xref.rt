@@ -1,54 +1,11 @@
-ghost use Rattle.std.specs.Prelude.{◌≡◌, IfOk};
-ghost use Rattle.texml_xref.specs.Small.{bare_line, small};
-
-use super::*;
+use crate::small::small_model;
 use bumpalo::Bump;
-use std::alloc::{AllocError, Global};
+use std::alloc::AllocError;
 use std::test::Fail;
-use texml_model::Content;
-use texml_token::{ByteList, Bytes};
-use texml_tree::{Elem, ElementLine, ElementLines, Elements, Flags, Head, Tag, Tree, element};
+use texml_tree::{Elem, Head, Tag, Tree, element};
+use texml_xref::resolve;
 
-const PLAIN: Flags = Flags {
-    text: false,
-    block: false,
-    opens: false,
-    closes: false,
-    id: false,
-    toc: false,
-    void: false,
-};
-
-fn bare(alloc: Global, name: &[u8]) -> Result<ElementLine, AllocError>
-    ensures { IfOk result (λ line. line ≡ bare_line name.now) }
-{
-    Ok(ElementLine {
-        name: Bytes::from_slice(alloc, name)?,
-        tag: Bytes::from_slice(alloc, name)?,
-        class: None,
-        flags: PLAIN,
-        holds: ByteList::new(alloc),
-        attrs: ByteList::new(alloc),
-    })
-}
-
-fn table(alloc: Global) -> Result<Elements, AllocError>
-    ensures { IfOk result (λ elements. elements ≡ small) }
-{
-    let mut lines = ElementLines::new(alloc);
-    lines.push(bare(alloc, b"document")?)?;
-    lines.push(bare(alloc, b"ref")?)?;
-    Ok(Elements {
-        lines,
-        attributes: ByteList::new(alloc),
-    })
-}
-
-#[tactic(auto, using(crate::proofs::Rows::is_model))]
-fn model(alloc: Global) -> Result<Content, AllocError> {
-    let elements = table(alloc)?;
-    Content::new(alloc, &elements)
-}
+const REF: Elem = Elem(9);
 
 const ROOT: Head<'static> = Head {
     elem: Elem(0),
@@ -87,7 +44,7 @@ const SECOND: Head<'static> = Head {
 };
 
 const TO_A: Head<'static> = Head {
-    elem: Elem(1),
+    elem: REF,
     identified: false,
     target: Some(b"a"),
     attrs: &[],
@@ -95,7 +52,7 @@ const TO_A: Head<'static> = Head {
 };
 
 const TO_Z: Head<'static> = Head {
-    elem: Elem(1),
+    elem: REF,
     identified: false,
     target: Some(b"z"),
     attrs: &[],
@@ -116,7 +73,7 @@ fn sample<'a>(arena: &'a Bump) -> Result<Tree<'a>, AllocError> {
 fn the_last_element_owns_a_label(rt: HostRuntime) -> Result<(), Fail> {
     let alloc = rt.alloc();
     let arena = Bump::new(alloc);
-    let linked = resolve(alloc, sample(&arena)?, &model(alloc)?)?;
+    let linked = resolve(alloc, sample(&arena)?, &small_model(alloc)?)?;
     assert_eq!(rt; linked.references(), 3);
     assert_eq!(rt; linked.undefined(), 1, "z has no owner");
     assert_eq!(rt; linked.sections(), 0);

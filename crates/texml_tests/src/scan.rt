@@ -1,11 +1,11 @@
 //! Texts that are scanned, one character after the other, by one loop for all scanners.
 
-use crate::{
+use std::test::Fail;
+use texml_fixed::{Amount, Glue, Order, Scaled};
+use texml_scan::{
     DimenScan, GlueScan, Held, IntScan, KeywordScan, Look, Quantity, Scan, ScanFault, ScanStep,
     looked_at,
 };
-use std::test::Fail;
-use texml_fixed::{Amount, Glue, Order, Scaled};
 use texml_scope::{Key, Meaning, builtins};
 use texml_token::{Line, Names, Token};
 

@@ -1,13 +1,13 @@
 //! Trees and lists with ample memory.
 
-use crate::{
-    Attr, Elem, ElementLine, ElementLines, Elements, Flags, Head, ModelFault, Node, Op, Ops, Sets,
-    Tag, Tree, element, leaf, model_fault,
-};
 use bumpalo::Bump;
 use std::alloc::Global;
 use std::test::Fail;
 use texml_token::{ByteList, Bytes};
+use texml_tree::{
+    Attr, Elem, ElementLine, ElementLines, Elements, Flags, Head, ModelFault, Node, Op, Ops, Sets,
+    Tag, Tree, element, leaf, model_fault,
+};
 
 const PLAIN: Head<'static> = Head {
     elem: Elem(3),

@@ -2,7 +2,7 @@ use Rattle.std.proofs.Common.{◌≡◌, ◌≤◌}
 use Rattle.std.specs.List.{All}
 use Rattle.texml_token.specs.Pieces.{slots_in, AreNumberedFrom}
 use Rattle.texml_token.specs.Numbers.{PieceWithin}
-use Rattle.texml_match.proofs.tests.params.Given as goal
+use Rattle.texml_tests.proofs.arguments.params.Given as goal
 
 abbrev pub invariant-loop-c : goal.invariant-loop-c
 invariant-loop-c l = record {

@@ -2,7 +2,7 @@ use Rattle.std.proofs.Common.{rules, ◌≡◌, ◌∙◌, ◌++◌, ◌∷◌, 
 use Rattle.texml_token.specs.declared.pieces.PieceOf.TheVariants.{Just}
 use Rattle.texml_token.specs.Pieces.{slots_in, AreNumberedFrom}
 use Rattle.texml_match.proofs.Building.{slots_just, numbered_just}
-use Rattle.texml_match.proofs.tests.push_token.Goals as goal
+use Rattle.texml_tests.proofs.arguments.push_token.Goals as goal
 
 pub returns-clause-count : goal.returns-clause-count
 returns-clause-count c =

@@ -1,7 +1,7 @@
 //! What no clause says: that the calls answer with ample memory, and that skipping many conditionals ends.
 
-use super::*;
 use std::test::Fail;
+use texml_cond::*;
 use texml_scope::Meaning;
 use texml_scope::builtins::{FI, IFTRUE};
 

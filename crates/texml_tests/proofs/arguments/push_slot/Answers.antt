@@ -2,7 +2,7 @@ use Rattle.std.proofs.Common.{rules, arith, ◌≡◌, ◌+◌, ◌∙◌, ◌++
 use Rattle.texml_token.specs.declared.pieces.PieceOf.TheVariants.{Slot}
 use Rattle.texml_token.specs.Pieces.{slots_in, AreNumberedFrom}
 use Rattle.texml_match.proofs.Building.{slots_slot, numbered_slot}
-use Rattle.texml_match.proofs.tests.push_slot.Goals as goal
+use Rattle.texml_tests.proofs.arguments.push_slot.Goals as goal
 
 pub returns-clause-count : goal.returns-clause-count
 returns-clause-count c =

@@ -6,9 +6,9 @@ ghost use Rattle.texml_token.specs.Pieces.{slots_in, AreNumberedFrom};
 ghost use Rattle.texml_token.specs.Numbers.{TokenWithin, EndsNoGroup, PieceWithin, ParamsWithin, Numbered};
 ghost use Rattle.texml_match.specs.Shape.{ShapeWithin, is_empty};
 
-use crate::{ArgMatch, Args, Fed, MatchFault, Shape};
 use std::alloc::Global;
 use std::test::Fail;
+use texml_match::{ArgMatch, Args, Fed, MatchFault, Shape};
 use texml_token::category::{BEGIN_GROUP, END_GROUP, OTHER, SPACE};
 use texml_token::{Line, Name, Names, Params, Piece, Pieces, Token};
 
