@@ -1,0 +1,5 @@
+pub mod Pieces
+pub mod Going
+pub mod Wording
+pub mod Weighing
+pub mod Rows
