@@ -3,3 +3,4 @@ pub mod Going
 pub mod Wording
 pub mod Weighing
 pub mod Rows
+pub mod Known
