@@ -1,0 +1,4 @@
+pub mod Html
+pub mod Walk
+pub mod Small
+pub mod Writing

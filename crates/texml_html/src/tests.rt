@@ -1,0 +1,184 @@
+//! Pages of small trees.
+
+ghost use Rattle.std.specs.Prelude.{◌≡◌, ◌∷◌, [], Some, None, map, IfOk, codes};
+ghost use Rattle.texml_html.specs.Small.{plain_flags, small, small_line};
+
+use crate::write;
+use bumpalo::Bump;
+use std::alloc::{AllocError, Global};
+use std::test::Fail;
+use texml_base::{MemorySink, SinkFail};
+use texml_build::build;
+use texml_model::Content;
+use texml_token::{ByteList, Bytes};
+use texml_tree::{Elem, ElementLine, ElementLines, Elements, Flags, Op, Ops, Sets};
+use texml_xref::{Linked, resolve};
+
+const PLAIN: Flags = Flags {
+    text: true,
+    block: false,
+    opens: false,
+    closes: false,
+    id: false,
+    toc: false,
+    void: false,
+};
+
+const SECTION: Flags = Flags {
+    text: true,
+    block: false,
+    opens: false,
+    closes: false,
+    id: true,
+    toc: true,
+    void: false,
+};
+
+const TITLE: usize = 1;
+
+const P: usize = 2;
+
+const PART: usize = 3;
+
+const TOC: usize = 4;
+
+const HREF: usize = 1;
+
+const SRC: usize = 2;
+
+/// An operation on texts that the program has.
+#[derive(Clone, Copy)]
+enum Step {
+    Open(usize),
+    Close(usize),
+    Text(&'static [u8]),
+    Attr(usize, &'static [u8]),
+    Label(&'static [u8], &'static [u8]),
+    Ref(&'static [u8]),
+}
+
+fn texts(alloc: Global, list: &[&[u8]]) -> Result<ByteList, AllocError>
+    ensures { IfOk result (λ texts. texts ≡ map (λ t. t.now) list.now) }
+{
+    let mut texts = ByteList::new(alloc);
+    for text in list {
+        texts.push(Bytes::from_slice(alloc, *text)?)?;
+    }
+    Ok(texts)
+}
+
+fn line(
+    alloc: Global,
+    name: &[u8],
+    tag: &[u8],
+    flags: Flags,
+    holds: &[&[u8]],
+) -> Result<ElementLine, AllocError>
+    ensures { IfOk result (λ line. line ≡ small_line name.now tag.now None flags (map (λ t. t.now) holds.now) []) }
+{
+    Ok(ElementLine {
+        name: Bytes::from_slice(alloc, name)?,
+        tag: Bytes::from_slice(alloc, tag)?,
+        class: None,
+        flags,
+        holds: texts(alloc, holds)?,
+        attrs: ByteList::new(alloc),
+    })
+}
+
+fn paragraph(alloc: Global) -> Result<ElementLine, AllocError>
+    ensures { IfOk result (λ line. line ≡ small_line (codes "p") (codes "p") (Some (codes "wide")) plain_flags [] (codes "number" ∷ codes "href" ∷ codes "src" ∷ [])) }
+{
+    Ok(ElementLine {
+        name: Bytes::from_slice(alloc, b"p")?,
+        tag: Bytes::from_slice(alloc, b"p")?,
+        class: Some(Bytes::from_slice(alloc, b"wide")?),
+        flags: PLAIN,
+        holds: ByteList::new(alloc),
+        attrs: texts(alloc, &[b"number", b"href", b"src"])?,
+    })
+}
+
+fn lines(alloc: Global) -> Result<ElementLines, AllocError>
+    ensures { IfOk result (λ lines. lines ≡ small.lines) }
+{
+    let mut lines = ElementLines::new(alloc);
+    let parts: [&[u8]; 5] = [b"title", b"p", b"section", b"toc", b"ref"];
+    lines.push(line(alloc, b"document", b"main", PLAIN, &parts)?)?;
+    lines.push(line(alloc, b"title", b"h1", PLAIN, &[])?)?;
+    lines.push(paragraph(alloc)?)?;
+    lines.push(line(alloc, b"section", b"section", SECTION, &parts)?)?;
+    lines.push(line(alloc, b"toc", b"ul", PLAIN, &[])?)?;
+    lines.push(line(alloc, b"ref", b"a", PLAIN, &[])?)?;
+    Ok(lines)
+}
+
+#[tactic(auto, using(crate::proofs::Rows::is_model))]
+fn small_model(alloc: Global) -> Result<Content, AllocError> {
+    let elements = Elements {
+        lines: lines(alloc)?,
+        attributes: texts(alloc, &[b"number", b"href", b"src"])?,
+    };
+    Content::new(alloc, &elements)
+}
+
+fn op(alloc: Global, step: Step) -> Result<Op, AllocError> {
+    Ok(match step {
+        Step::Open(elem) => Op::Open(Elem(elem), Sets::new(alloc)),
+        Step::Close(elem) => Op::Close(Elem(elem)),
+        Step::Text(text) => Op::Text(Bytes::from_slice(alloc, text)?),
+        Step::Attr(attr, value) => Op::Attr(attr, Bytes::from_slice(alloc, value)?),
+        Step::Label(label, number) => Op::Label(
+            Bytes::from_slice(alloc, label)?,
+            Bytes::from_slice(alloc, number)?,
+        ),
+        Step::Ref(label) => Op::Ref(Bytes::from_slice(alloc, label)?),
+    })
+}
+
+fn sample(alloc: Global) -> Result<Ops, AllocError> {
+    let mut ops = Ops::new(alloc);
+    for step in [
+        Step::Open(TOC),
+        Step::Close(TOC),
+        Step::Open(TITLE),
+        Step::Text(b"a & b"),
+        Step::Close(TITLE),
+        Step::Ref(b"a"),
+        Step::Open(PART),
+        Step::Label(b"a", b"1"),
+        Step::Open(P),
+        Step::Attr(SRC, b"s"),
+        Step::Attr(HREF, b"\"<&>"),
+        Step::Attr(0, b"7"),
+        Step::Text(b"\"<&>"),
+        Step::Close(P),
+        Step::Text(b"c"),
+        Step::Close(PART),
+        Step::Ref(b"z"),
+    ] {
+        ops.push(op(alloc, step)?)?;
+    }
+    Ok(ops)
+}
+
+const PAGE: &[u8] = b"<!DOCTYPE html>\n<html><head><meta charset=\"utf-8\"><title>a &amp; b</title></head><body><main id=\"x0\"><ul class=\"toc\"><li><a href=\"#x1\">\"&lt;&amp;&gt;</a></li></ul><h1>a &amp; b</h1><a href=\"#x1\">1</a><section id=\"x1\"><p class=\"wide\" href=\"&quot;&lt;&amp;>\" src=\"s\">\"&lt;&amp;&gt;</p>c</section><span class=\"undefined\">??</span></main></body></html>\n";
+
+#[tactic(auto, using(crate::proofs::Known::valid_is_known))]
+#[test]
+fn a_page_is_written_or_cut(rt: HostRuntime) -> Result<(), Fail> {
+    let alloc = rt.alloc();
+    let arena = Bump::new(alloc);
+    let content = small_model(alloc)?;
+    let linked = match build(alloc, &arena, &sample(alloc)?, &content) {
+        Ok(tree) => resolve(alloc, tree, &content)?,
+        Err(_) => return Err(Fail::from(AllocError)),
+    };
+    let mut whole = MemorySink::new(alloc, 1000, 0)?;
+    assert_eq!(rt; write(&linked, &content, &mut whole), Ok(()));
+    assert_eq!(rt; whole.bytes(), PAGE);
+    let mut cut = MemorySink::new(alloc, 70, 0)?;
+    assert_eq!(rt; write(&linked, &content, &mut cut), Err(SinkFail));
+    assert_eq!(rt; cut.bytes(), &PAGE[..70]);
+    Ok(())
+}
