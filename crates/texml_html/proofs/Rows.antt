@@ -1,10 +1,9 @@
 -- The definitions computed on small trees.
-use Rattle.std.proofs.Common.{◌≡◌, ℕ, true, false, List, [], ◌∷◌, Option, None, Some, refl, sym, subst}
+use Rattle.std.proofs.Common.{◌≡◌, ℕ, true, false, List, [], ◌∷◌, Option, None, Some, refl}
 use Rattle.std.specs.Prelude.{codes}
 use Rattle.std.specs.Fmt.{digits}
-use Rattle.texml_tree.specs.declared.table.Elements.{Elements}
 use Rattle.texml_tree.specs.Tree.{Head, Mark, Set, Tree, text, element, trees}
-use Rattle.texml_model.specs.Rules.{IsContentModel, rules_of}
+use Rattle.texml_model.specs.Rules.{rules_of}
 use Rattle.texml_xref.specs.Refs.{LinkedTree}
 use Rattle.texml_html.specs.Small.{small}
 use Rattle.texml_html.specs.Html.{html}
@@ -45,9 +44,3 @@ pub references_and_contents : html (rules_of small) (linked (element (plain_head
     ≡ codes "<!DOCTYPE html>\n<html><head><meta charset=\"utf-8\"><title>untitled</title></head><body><main id=\"x0\"><ul class=\"toc\"><li><a href=\"#x1\">A&lt;B</a></li></ul><a href=\"#x1\">1</a><section id=\"x1\"><p class=\"wide\">A&lt;B</p>c</section><span class=\"undefined\">??</span></main></body></html>\n"
 unfolding rules_of digits
 references_and_contents = refl
-
-pub small_is_model : IsContentModel small
-small_is_model = record { names = refl; root = refl; held = refl; attributes = refl; attrs = refl; void = refl }
-
-pub is_model : (elements : Elements) → elements ≡ small → IsContentModel elements
-is_model elements h = subst IsContentModel (sym h) small_is_model

@@ -17,6 +17,3 @@ mod writer;
 mod writing;
 
 pub use writing::write;
-
-#[cfg(test)]
-mod tests;

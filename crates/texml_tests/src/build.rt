@@ -1,6 +1,7 @@
 //! Trees of small tables of operations.
 
 use crate::small::small_model;
+use crate::steps::{Step, ops};
 use bumpalo::Bump;
 use std::alloc::{AllocError, Global};
 use std::process::Abort;
@@ -27,41 +28,6 @@ const BREAK: usize = 10;
 const NUMBER: usize = 0;
 
 const SPAN: usize = 1;
-
-/// An operation on texts that the program has.
-#[derive(Clone, Copy)]
-enum Step {
-    Open(usize),
-    With(usize, usize, &'static [u8]),
-    Close(usize),
-    CloseIf(usize),
-    Text(&'static [u8]),
-    Space,
-    Attr(usize, &'static [u8]),
-    Label(&'static [u8], &'static [u8]),
-    Ref(&'static [u8]),
-}
-
-fn op(alloc: Global, step: Step) -> Result<Op, AllocError> {
-    Ok(match step {
-        Step::Open(elem) => Op::Open(Elem(elem), Sets::new(alloc)),
-        Step::With(elem, attr, value) => {
-            let mut sets = Sets::new(alloc);
-            sets.push((attr, Bytes::from_slice(alloc, value)?))?;
-            Op::Open(Elem(elem), sets)
-        }
-        Step::Close(elem) => Op::Close(Elem(elem)),
-        Step::CloseIf(elem) => Op::CloseIf(Elem(elem)),
-        Step::Text(text) => Op::Text(Bytes::from_slice(alloc, text)?),
-        Step::Space => Op::Space,
-        Step::Attr(attr, value) => Op::Attr(attr, Bytes::from_slice(alloc, value)?),
-        Step::Label(label, number) => Op::Label(
-            Bytes::from_slice(alloc, label)?,
-            Bytes::from_slice(alloc, number)?,
-        ),
-        Step::Ref(label) => Op::Ref(Bytes::from_slice(alloc, label)?),
-    })
-}
 
 // A text as it is; an element as its name, `!` where it gets an id, its labels, attributes and target, and its children in
 // brackets.
@@ -121,11 +87,7 @@ fn check(
     steps: &[Step],
     want: &str,
 ) -> Result<(), Fail> {
-    let mut ops = Ops::new(alloc);
-    for step in steps {
-        ops.push(op(alloc, *step)?)?;
-    }
-    let got = shown(alloc, content, &ops)?;
+    let got = shown(alloc, content, &ops(alloc, steps)?)?;
     assert_eq!(rt; got.as_slice(), want.as_bytes(), "{want}");
     Ok(())
 }

@@ -19,6 +19,8 @@ mod expand;
 #[cfg(test)]
 mod fixed;
 #[cfg(test)]
+mod html;
+#[cfg(test)]
 mod model;
 #[cfg(test)]
 mod mouth;
@@ -28,6 +30,8 @@ mod scan;
 mod scope;
 #[cfg(test)]
 mod small;
+#[cfg(test)]
+mod steps;
 #[cfg(test)]
 mod text;
 #[cfg(test)]

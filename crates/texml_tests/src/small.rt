@@ -58,7 +58,7 @@ const VOID: Flags = Flags {
     void: true,
 };
 
-fn texts(alloc: Global, list: &[&[u8]]) -> Result<ByteList, AllocError>
+pub fn texts(alloc: Global, list: &[&[u8]]) -> Result<ByteList, AllocError>
     ensures { IfOk result (λ texts. texts ≡ map (λ t. t.now) list.now) }
 {
     let mut texts = ByteList::new(alloc);

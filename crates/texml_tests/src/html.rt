@@ -3,16 +3,18 @@
 ghost use Rattle.std.specs.Prelude.{◌≡◌, ◌∷◌, [], Some, None, map, IfOk, codes};
 ghost use Rattle.texml_html.specs.Small.{plain_flags, small, small_line};
 
-use crate::write;
+use crate::small::texts;
+use crate::steps::{Step, ops};
 use bumpalo::Bump;
 use std::alloc::{AllocError, Global};
 use std::test::Fail;
 use texml_base::{MemorySink, SinkFail};
 use texml_build::build;
+use texml_html::write;
 use texml_model::Content;
 use texml_token::{ByteList, Bytes};
-use texml_tree::{Elem, ElementLine, ElementLines, Elements, Flags, Op, Ops, Sets};
-use texml_xref::{Linked, resolve};
+use texml_tree::{ElementLine, ElementLines, Elements, Flags};
+use texml_xref::resolve;
 
 const PLAIN: Flags = Flags {
     text: true,
@@ -45,27 +47,6 @@ const TOC: usize = 4;
 const HREF: usize = 1;
 
 const SRC: usize = 2;
-
-/// An operation on texts that the program has.
-#[derive(Clone, Copy)]
-enum Step {
-    Open(usize),
-    Close(usize),
-    Text(&'static [u8]),
-    Attr(usize, &'static [u8]),
-    Label(&'static [u8], &'static [u8]),
-    Ref(&'static [u8]),
-}
-
-fn texts(alloc: Global, list: &[&[u8]]) -> Result<ByteList, AllocError>
-    ensures { IfOk result (λ texts. texts ≡ map (λ t. t.now) list.now) }
-{
-    let mut texts = ByteList::new(alloc);
-    for text in list {
-        texts.push(Bytes::from_slice(alloc, *text)?)?;
-    }
-    Ok(texts)
-}
 
 fn line(
     alloc: Global,
@@ -113,7 +94,7 @@ fn lines(alloc: Global) -> Result<ElementLines, AllocError>
     Ok(lines)
 }
 
-#[tactic(auto, using(crate::proofs::Rows::is_model))]
+#[tactic(auto, using(crate::proofs::Small::page_is_model))]
 fn small_model(alloc: Global) -> Result<Content, AllocError> {
     let elements = Elements {
         lines: lines(alloc)?,
@@ -122,55 +103,36 @@ fn small_model(alloc: Global) -> Result<Content, AllocError> {
     Content::new(alloc, &elements)
 }
 
-fn op(alloc: Global, step: Step) -> Result<Op, AllocError> {
-    Ok(match step {
-        Step::Open(elem) => Op::Open(Elem(elem), Sets::new(alloc)),
-        Step::Close(elem) => Op::Close(Elem(elem)),
-        Step::Text(text) => Op::Text(Bytes::from_slice(alloc, text)?),
-        Step::Attr(attr, value) => Op::Attr(attr, Bytes::from_slice(alloc, value)?),
-        Step::Label(label, number) => Op::Label(
-            Bytes::from_slice(alloc, label)?,
-            Bytes::from_slice(alloc, number)?,
-        ),
-        Step::Ref(label) => Op::Ref(Bytes::from_slice(alloc, label)?),
-    })
-}
+const SAMPLE: [Step; 17] = [
+    Step::Open(TOC),
+    Step::Close(TOC),
+    Step::Open(TITLE),
+    Step::Text(b"a & b"),
+    Step::Close(TITLE),
+    Step::Ref(b"a"),
+    Step::Open(PART),
+    Step::Label(b"a", b"1"),
+    Step::Open(P),
+    Step::Attr(SRC, b"s"),
+    Step::Attr(HREF, b"\"<&>"),
+    Step::Attr(0, b"7"),
+    Step::Text(b"\"<&>"),
+    Step::Close(P),
+    Step::Text(b"c"),
+    Step::Close(PART),
+    Step::Ref(b"z"),
+];
 
-fn sample(alloc: Global) -> Result<Ops, AllocError> {
-    let mut ops = Ops::new(alloc);
-    for step in [
-        Step::Open(TOC),
-        Step::Close(TOC),
-        Step::Open(TITLE),
-        Step::Text(b"a & b"),
-        Step::Close(TITLE),
-        Step::Ref(b"a"),
-        Step::Open(PART),
-        Step::Label(b"a", b"1"),
-        Step::Open(P),
-        Step::Attr(SRC, b"s"),
-        Step::Attr(HREF, b"\"<&>"),
-        Step::Attr(0, b"7"),
-        Step::Text(b"\"<&>"),
-        Step::Close(P),
-        Step::Text(b"c"),
-        Step::Close(PART),
-        Step::Ref(b"z"),
-    ] {
-        ops.push(op(alloc, step)?)?;
-    }
-    Ok(ops)
-}
+const PAGE: &[u8] =
+    b"<!DOCTYPE html>\n<html><head><meta charset=\"utf-8\"><title>a &amp; b</title></head><body><main id=\"x0\"><ul class=\"toc\"><li><a href=\"#x1\">\"&lt;&amp;&gt;</a></li></ul><h1>a &amp; b</h1><a href=\"#x1\">1</a><section id=\"x1\"><p class=\"wide\" href=\"&quot;&lt;&amp;>\" src=\"s\">\"&lt;&amp;&gt;</p>c</section><span class=\"undefined\">??</span></main></body></html>\n";
 
-const PAGE: &[u8] = b"<!DOCTYPE html>\n<html><head><meta charset=\"utf-8\"><title>a &amp; b</title></head><body><main id=\"x0\"><ul class=\"toc\"><li><a href=\"#x1\">\"&lt;&amp;&gt;</a></li></ul><h1>a &amp; b</h1><a href=\"#x1\">1</a><section id=\"x1\"><p class=\"wide\" href=\"&quot;&lt;&amp;>\" src=\"s\">\"&lt;&amp;&gt;</p>c</section><span class=\"undefined\">??</span></main></body></html>\n";
-
-#[tactic(auto, using(crate::proofs::Known::valid_is_known))]
+#[tactic(auto, using(texml_html::proofs::Known::valid_is_known))]
 #[test]
 fn a_page_is_written_or_cut(rt: HostRuntime) -> Result<(), Fail> {
     let alloc = rt.alloc();
     let arena = Bump::new(alloc);
     let content = small_model(alloc)?;
-    let linked = match build(alloc, &arena, &sample(alloc)?, &content) {
+    let linked = match build(alloc, &arena, &ops(alloc, &SAMPLE)?, &content) {
         Ok(tree) => resolve(alloc, tree, &content)?,
         Err(_) => return Err(Fail::from(AllocError)),
     };
