@@ -29,14 +29,6 @@ returns-in_err-expand-in-Expands-clause-follows g c =
     let h = fetch_stops_expand _ _ (token_at n c.in-Expands.token) (Call (macro_at n c.in-Expands.found)) _ _ _ _ _ _ _ _ c.fronts.invariant.onward (rw c.in-Expands.is at c.in_ok-front.ensures.fronts) c.in_err-expand-in-Expands.ensures.follows in
     search (rules, h)
 
-pub fronts-preserved-in_ok-expand-in-Expands : goal.fronts-preserved-in_ok-expand-in-Expands
-fronts-preserved-in_ok-expand-in-Expands g c =
-    let n = c.front.new.self.names in
-    let f = c.in_ok-front.ensures in
-    let e = c.in_ok-expand-in-Expands.ensures in
-    fetching_on _ _ g.T.Teller.faults (token_at n c.in-Expands.token) (Call (macro_at n c.in-Expands.found)) _ _ _ _ _ _ _ c.fronts.invariant
-    (rw c.in-Expands.is at f.fronts) (rw c.in-Expands.is at f.lower) f.keeps e.follows e.stops e.begins f.progress e.progress e.keeps
-
 pub fronts-preserved : goal.fronts-preserved
 fronts-preserved g c =
     let n = c.front.new.self.names in
