@@ -8,6 +8,7 @@
 //! It stands on texml_base, texml_token, texml_text, texml_mouth, texml_scope and texml_watch.
 #![tactic(auto)]
 
+mod call;
 mod codes;
 mod engine;
 mod feeding;
