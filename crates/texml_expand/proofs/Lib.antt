@@ -24,3 +24,6 @@ pub mod Rounds
 pub mod Least
 pub mod Fed
 pub mod Groups
+pub mod Sequence
+pub mod Spacing
+pub mod Matching
