@@ -27,3 +27,5 @@ pub mod Groups
 pub mod Sequence
 pub mod Spacing
 pub mod Matching
+pub mod Mapping
+pub mod Called

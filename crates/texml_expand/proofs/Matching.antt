@@ -31,27 +31,12 @@ use Rattle.texml_expand.proofs.Least.{Took, takes_room, next_took, by_least_at, 
 use Rattle.texml_expand.proofs.Fed.{tokens_more_one, tokens_end, push_length}
 
 -- a shape that asks for something wants a token
-wants_first : (prefix : List Token) (delimiters : List (List Token)) (long : Bool) → (length prefix == 0 && length delimiters == 0) ≡ false → reading (record { prefix = prefix; delimiters = delimiters; long = long }) [] ≡ Wants
-wants_first [] [] long e = let no : true ≡ false = e in cc
-wants_first [] ([] ∷ ds) long e = refl
-wants_first [] ((x ∷ xs) ∷ ds) long e = refl
-wants_first (p ∷ ps) ds long e = refl
-
 wants_by : (texts : Table) (prefix : List TokenCode) (delimiters : List (List TokenCode)) (long : Bool) → (length prefix == 0 && length delimiters == 0) ≡ false
     → reading (shape_at texts (record { prefix = prefix; delimiters = delimiters; long = long })) [] ≡ Wants
 wants_by texts [] [] long e = let no : true ≡ false = e in cc
 wants_by texts [] ([] ∷ ds) long e = refl
 wants_by texts [] ((x ∷ xs) ∷ ds) long e = refl
 wants_by texts (p ∷ ps) ds long e = refl
-
-pub empty_reads : (texts : Table) (prefix : List TokenCode) (delimiters : List (List TokenCode)) (long : Bool) → (length prefix == 0 && length delimiters == 0) ≡ true
-    → reading (shape_at texts (record { prefix = prefix; delimiters = delimiters; long = long })) [] ≡ Gives [] []
-empty_reads texts [] [] long e = refl
-empty_reads texts [] (d ∷ ds) long e = absurd (no_more (length ds) (λ z. absurd (omega (arith, z))) e)
-  where
-    no_more : (n : ℕ) → (suc n ≡ 0 → ⊥) → (suc n == 0) ≡ true → ⊥
-    no_more n h e = grind (arith, e)
-empty_reads texts (p ∷ ps) ds long e = grind (arith, e)
 
 module _ (shape : Shape TokenCode) (old : Held) where
   abbrev pub reader : Reader (List (List Token))
