@@ -29,3 +29,4 @@ pub mod Spacing
 pub mod Matching
 pub mod Mapping
 pub mod Called
+pub mod Lengths
