@@ -8,6 +8,10 @@ pub mod Taking
 pub mod Putting
 pub mod Fresh
 pub mod Progress
+pub mod Stopping
+pub mod Leading
+pub mod Deciding
+pub mod Calling
 pub mod Order
 pub mod Falls
 pub mod Settle
@@ -20,3 +24,9 @@ pub mod Rounds
 pub mod Least
 pub mod Fed
 pub mod Groups
+pub mod Sequence
+pub mod Spacing
+pub mod Matching
+pub mod Mapping
+pub mod Called
+pub mod Lengths

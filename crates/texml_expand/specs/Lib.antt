@@ -2,8 +2,10 @@ pub mod Rest
 pub mod Next
 pub mod Codes
 pub mod State
-pub mod Expand
+pub mod Take
 pub mod Least
+pub mod Arguments
+pub mod Expand
 pub mod Absorb
 pub mod Held
 pub mod Contract
@@ -13,4 +15,5 @@ pub mod Lending
 pub mod Sources
 pub mod Turning
 pub mod Fronts
+pub mod Filling
 pub mod Feeding
