@@ -1,11 +1,10 @@
 -- Each command has one answer, and leaves no more to be read.
-use Rattle.std.proofs.Common.{◌≡◌, ◌+◌, ℕ, zero, suc, Bool, true, false, if◌then◌else◌, List, [], ◌∷◌, length, length-append, map, ◌++◌, ◌≤◌, Option, Some, None, Ok, Err, refl, sym, ap, ◌∙◌, arith, ◌&&◌, ◌==◌}
-use Rattle.std.specs.List.{list_any, sum_by}
+use Rattle.std.proofs.Common.{◌≡◌, ◌+◌, ℕ, zero, suc, Bool, true, false, if◌then◌else◌, List, [], ◌∷◌, length, length-append, map, ◌++◌, ◌≤◌, Option, Some, None, Ok, Err, refl, sym, ap, ◌∙◌, arith}
+use Rattle.std.specs.List.{sum_by}
 use Rattle.std.specs.Option.{option_to_list}
-use Rattle.std.proofs.lemmas.List.Sums.{sum_by-cons, sum_by-append}
-use Rattle.texml_token.specs.Token.{Token, Char, Active, Named, Fixed, has_category}
-use Rattle.texml_token.specs.declared.category.TheConstants.{BEGIN_GROUP, END_GROUP, PARAMETER}
-use Rattle.texml_token.specs.declared.fault_code.TheConstants.{FILE_ENDED, BAD_PARAMETER, MISSING_BRACE, BAD_PREFIX}
+use Rattle.std.proofs.lemmas.List.Sums.{sum_by-cons}
+use Rattle.texml_token.specs.Token.{Token, Active, Named}
+use Rattle.texml_token.specs.declared.fault_code.TheConstants.{BAD_PREFIX}
 use Rattle.texml_scope.specs.declared.values.FaultOf.TheVariants.{WrongGroup}
 use Rattle.texml_scope.specs.Groups.{Open, put_below, begin_group, keep_in, end_in}
 use Rattle.texml_scope.specs.Texts.{Key, Kind, Value, Meaning, key_eq, kind_eq}
@@ -15,11 +14,10 @@ use Rattle.texml_scope.specs.declared.values.KindOf.TheVariants.{Begin}
 use Rattle.texml_expand.specs.Next.{Taken, Given, Got, AtEnd, Invalid, next}
 use Rattle.texml_expand.specs.Codes.{cats_of, end_of}
 use Rattle.texml_expand.specs.Absorb.{absorbed, absorb}
-use Rattle.texml_expand.specs.Least.{inside_if, inside, inner_token, next_tokens, least, is_enough, decided}
+use Rattle.texml_expand.specs.Least.{inside_if, inside, inner_token, next_tokens, least, is_enough, decided, by_least}
 use Rattle.texml_expand.specs.declared.feeding.Verdict.{Verdict}
 use Rattle.texml_expand.specs.declared.feeding.Verdict.TheVariants.{TooShort, Yields, Refuses}
-use Rattle.texml_expand.proofs.Least.{Takes, take_takes, by_least_decided}
-use Rattle.texml_expand.proofs.Groups.{absorb_leads}
+use Rattle.texml_expand.proofs.Least.{Takes, take_takes, Decides, by_least_decided, by_least_leads}
 use Rattle.texml_expand.specs.State.{State, nothing, room, Done, Reading, chain, IsDecided, give, fail, change}
 use Rattle.texml_expand.specs.Expand.{take_given, take, back, put, level}
 use Rattle.texml_expand.specs.Contract.{Lower}
@@ -35,14 +33,15 @@ use Rattle.texml_assign.specs.declared.table.Command.TheVariants.{Relax, Def, Gd
 use Rattle.texml_assign.specs.declared.table.Executable.{Executable}
 use Rattle.texml_assign.specs.declared.table.Executable.TheVariants.{Prefix, Command}
 use Rattle.texml_assign.specs.declared.table.Prefixes.{Prefixes}
-use Rattle.texml_assign.specs.declared.executing.Executed.{Executed}
 use Rattle.texml_assign.specs.declared.executing.Executed.TheVariants.{Yes, NotMine}
 use Rattle.texml_assign.specs.Table.{executable_of, is_assignment, no_prefixes, with_prefix, may_follow}
-use Rattle.texml_assign.specs.Loop.{ByDepth, Next, On, Over, Loop, loops}
+use Rattle.texml_assign.specs.Loop.{ByDepth, On, Over}
 use Rattle.texml_assign.specs.Meaning.{means}
-use Rattle.texml_assign.specs.Operands.{needed, next_token, token_of, token_or_end, key_of, next_key, is_space, space_turn, spaces_loop, behind_spaces, is_equals, behind_space, behind_sign, behind_equals, meaning_now, meant}
+use Rattle.texml_assign.specs.Operands.{needed, next_token, token_of, token_or_end, key_of, next_key, is_space, space_turn, spaces_loop, behind_spaces, is_equals, behind_space, behind_sign, behind_equals, meaning_now, meant, with_token, look_ahead}
+use Rattle.texml_assign.specs.Parameters.{Head, text_of, body_of}
+use Rattle.texml_assign.specs.Define.{parameter_text, needed_body, next_body, macro_of, defined, assigned}
 use Rattle.texml_assign.specs.Sets.{assign, begin_kind, ended, end_kind, read_after, keep, keep_token, put_kept_of, put_kept}
-use Rattle.texml_assign.specs.Execute.{open_brace, plain_body, macro_of, defined, assigned, with_token, row, behind, perform, followed, prefix_word, prefix_turn, prefix_loop, prefixed, execute_prefixed, execute_word, execute_by, execute}
+use Rattle.texml_assign.specs.Execute.{row, behind, perform, followed, prefix_word, prefix_turn, prefix_loop, prefixed, execute_prefixed, execute_word, execute_by, execute}
 use Rattle.texml_assign.proofs.Readings.{IsUnlimited, unlimited_chain, Lawful, Plain, lawful_plain, lawful_by, lawful_then, plain_by, plain_give, plain_fail, plain_change, plain_if, plain_then}
 use Rattle.texml_assign.proofs.Looping.{LawfulLoop, lawful_loop}
 
@@ -130,69 +129,6 @@ plain_meant_behind t = plain_then (behind_equals t) meaning_now (plain_behind_eq
 pub lawful_meant : Lawful meant
 lawful_meant = lawful_then behind_spaces (λ t n. meant_behind t) lawful_spaces (λ t. lawful_plain (meant_behind t) (plain_meant_behind t))
 
--- Definitions
-
-pub plain_open : (t : Token) → Plain (open_brace t)
-plain_open t =
-    plain_if (has_category BEGIN_GROUP t) (give tt) (if has_category END_GROUP t then fail MISSING_BRACE [] else fail BAD_PARAMETER []) (plain_give tt)
-    (plain_if (has_category END_GROUP t) (fail MISSING_BRACE []) (fail BAD_PARAMETER []) (plain_fail _ _ _) (plain_fail _ _ _))
-
-inside_if_unlimited : (b : Bool) (t : Token) (s : State) → IsUnlimited (inside_if b t s)
-inside_if_unlimited true t s = tt
-inside_if_unlimited false t s = tt
-
-inside_unlimited : (o : Option Taken) (s : State) → IsUnlimited (inside o s)
-inside_unlimited None s = tt
-inside_unlimited (Some t) s = inside_if_unlimited t.crossed t.token s
-
-tokens_unlimited : (k : ℕ) (s : State) → IsUnlimited (next_tokens k s)
-tokens_unlimited zero s = tt
-tokens_unlimited (suc k) s =
-    unlimited_chain (next_tokens k s) _ (tokens_unlimited k s) (λ list t.
-    unlimited_chain (inner_token t) (λ x. give (list ++ x ∷ [])) (unlimited_chain (take t) inside (plain_take.unlimited t) inside_unlimited) (λ x u. tt))
-
-verdict_unlimited : (v : Verdict (List Token)) (s : State) → IsUnlimited (decided v s)
-verdict_unlimited TooShort s = tt
-verdict_unlimited (Yields list) s = tt
-verdict_unlimited (Refuses code) s = tt
-
-absorb_unlimited : (s : State) → IsUnlimited (absorb s)
-absorb_unlimited s =
-    let k = least (room s + 1) (λ k. is_enough absorbed (next_tokens k s)) in
-    unlimited_chain (next_tokens k s) (λ list. decided (absorbed list)) (tokens_unlimited k s) (λ list t. verdict_unlimited (absorbed list) t)
-
-pub plain_absorb : Plain absorb
-plain_absorb = record {
-  decided = by_least_decided absorbed;
-  falls = λ s. leads_weaker (λ list t. Lower (length list + 1) s t) (λ list t. Lower 0 s t) (absorb s) (λ list t g. lower_then (length list + 1) 0 0 s t t g (lower_none t) (omega arith)) (absorb_leads s);
-  unlimited = absorb_unlimited;
-}
-
-pub plain_body_law : (body : List Token) → Plain (plain_body body)
-plain_body_law body = plain_if (list_any (has_category PARAMETER) body) (fail BAD_PARAMETER []) (give tt) (plain_fail _ _ _) (plain_give tt)
-
--- what follows a body, and what follows the brace before it
-abbrev pub body_taken : Bool → List Token → Reading Meaning
-body_taken long body s = chain (plain_body body s) (λ _. give (Macro (macro_of long body)))
-
-pub plain_body_taken : (long : Bool) (body : List Token) → Plain (body_taken long body)
-plain_body_taken long body = plain_then (plain_body body) (λ _. give (Macro (macro_of long body))) (plain_body_law body) (λ _. plain_give _)
-
-abbrev pub body_next : Bool → Reading Meaning
-body_next long s = chain (absorb s) (body_taken long)
-
-pub plain_body_next : (long : Bool) → Plain (body_next long)
-plain_body_next long = plain_then absorb (body_taken long) plain_absorb (plain_body_taken long)
-
-abbrev pub brace_taken : Bool → Token → Reading Meaning
-brace_taken long t s = chain (open_brace t s) (λ _. body_next long)
-
-pub plain_brace_taken : (long : Bool) (t : Token) → Plain (brace_taken long t)
-plain_brace_taken long t = plain_then (open_brace t) (λ _. body_next long) (plain_open t) (λ _. plain_body_next long)
-
-pub plain_defined : (long : Bool) → Plain (defined long)
-plain_defined long = plain_then next_token (brace_taken long) plain_next (plain_brace_taken long)
-
 -- Sets
 
 -- the after-tokens of groups stay where a value is set in all of them
@@ -252,7 +188,10 @@ plain_with_token f limit nesting begun more = record {
       (λ t u low. kept_lower s u (f t u) low (limit t u) (nesting t u) (begun t u) (more t u));
 }
 
-plain_after_group : Plain (with_token read_after)
+pub plain_look_ahead : Plain look_ahead
+plain_look_ahead = plain_with_token (λ t. back t false) (λ t s. refl) (λ t s. refl) (λ t s. refl) (λ t s. let e = size-cons (Tok t) s.rest in omega (arith, e))
+
+pub plain_after_group : Plain (with_token read_after)
 plain_after_group = plain_with_token read_after (λ t s. refl) (λ t s. refl) (λ t s. refl) (λ t s. let k = keep_room t s.world.groups in omega arith)
 
 plain_after_assignment : Plain (with_token keep_token)
@@ -286,6 +225,72 @@ by_groups kind s (g ∷ gs) e = by_kind s g gs (kind_eq g.kind kind) e
 
 pub plain_end : (kind : Kind) → Plain (end_kind kind)
 plain_end kind = record { decided = λ s. (by_groups kind s s.world.groups refl).0; falls = λ s. (by_groups kind s s.world.groups refl).1; unlimited = λ s. (by_groups kind s s.world.groups refl).2 }
+
+-- Definitions
+
+inside_if_unlimited : (b : Bool) (t : Token) (s : State) → IsUnlimited (inside_if b t s)
+inside_if_unlimited true t s = tt
+inside_if_unlimited false t s = tt
+
+inside_unlimited : (o : Option Taken) (s : State) → IsUnlimited (inside o s)
+inside_unlimited None s = tt
+inside_unlimited (Some t) s = inside_if_unlimited t.crossed t.token s
+
+tokens_unlimited : (k : ℕ) (s : State) → IsUnlimited (next_tokens k s)
+tokens_unlimited zero s = tt
+tokens_unlimited (suc k) s =
+    unlimited_chain (next_tokens k s) _ (tokens_unlimited k s) (λ list t.
+    unlimited_chain (inner_token t) (λ x. give (list ++ x ∷ [])) (unlimited_chain (take t) inside (plain_take.unlimited t) inside_unlimited) (λ x u. tt))
+
+verdict_unlimited : {A : Type 0} (v : Verdict A) (s : State) → IsUnlimited (decided v s)
+verdict_unlimited TooShort s = tt
+verdict_unlimited (Yields v) s = tt
+verdict_unlimited (Refuses code) s = tt
+
+-- a reading by the least number of next tokens
+pub plain_by_least : {A : Type 0} (decide : List Token → Verdict A) → Plain (by_least decide)
+plain_by_least decide = record {
+  decided = by_least_decided decide;
+  falls = λ s. leads_weaker (Decides decide s) (λ v t. Lower 0 s t) (by_least decide s) (λ v t g. lower_then (length g.list) 0 0 s t t g.lower (lower_none t) (omega arith)) (by_least_leads decide s);
+  unlimited = λ s.
+      let k = least (room s + 1) (λ k. is_enough decide (next_tokens k s)) in
+      unlimited_chain (next_tokens k s) (λ list. decided (decide list)) (tokens_unlimited k s) (λ list t. verdict_unlimited (decide list) t);
+}
+
+pub plain_absorb : Plain absorb
+plain_absorb = plain_by_least absorbed
+
+abbrev pub text_taken : Unit {0} → Reading (Head Token)
+text_taken x = by_least text_of
+
+pub plain_parameter_text : Plain parameter_text
+plain_parameter_text = plain_then look_ahead text_taken plain_look_ahead (λ x. plain_by_least text_of)
+
+pub plain_needed_body : (o : Option (List Token)) → Plain (needed_body o)
+plain_needed_body None = plain_fail _ _ _
+plain_needed_body (Some body) = plain_give body
+
+abbrev pub list_taken : ℕ → List Token → Reading (List Token)
+list_taken slots list = needed_body (body_of slots list)
+
+pub plain_list_taken : (slots : ℕ) (list : List Token) → Plain (list_taken slots list)
+plain_list_taken slots list = plain_needed_body (body_of slots list)
+
+pub plain_next_body : (slots : ℕ) → Plain (next_body slots)
+plain_next_body slots = plain_then absorb (list_taken slots) plain_absorb (plain_list_taken slots)
+
+-- what follows a body, and what follows a parameter text
+abbrev pub body_taken : Bool → Head Token → List Token → Reading Meaning
+body_taken long h body = give (Macro (macro_of long h body))
+
+abbrev pub head_taken : Bool → Head Token → Reading Meaning
+head_taken long h s = chain (next_body h.slots s) (body_taken long h)
+
+pub plain_head_taken : (long : Bool) (h : Head Token) → Plain (head_taken long h)
+plain_head_taken long h = plain_then (next_body h.slots) (body_taken long h) (plain_next_body h.slots) (λ body. plain_give _)
+
+pub plain_defined : (long : Bool) → Plain (defined long)
+plain_defined long = plain_then parameter_text (head_taken long) plain_parameter_text (plain_head_taken long)
 
 -- Rows
 

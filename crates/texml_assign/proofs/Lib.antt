@@ -3,4 +3,6 @@ pub mod Looping
 pub mod Doing
 pub mod Commands
 pub mod Worlds
-pub mod Searching
+pub mod ParameterTexts
+pub mod Macros
+mod Rows

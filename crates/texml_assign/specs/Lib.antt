@@ -3,6 +3,9 @@ pub mod Loop
 pub mod Meaning
 pub mod Operands
 pub mod Sets
+pub mod Parameters
+pub mod TextFeeding
+pub mod Define
 pub mod Execute
 pub mod Advance
 pub mod Doing

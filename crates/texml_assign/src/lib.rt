@@ -11,6 +11,7 @@ mod define;
 mod executing;
 mod meaning;
 mod operands;
+mod parameters;
 mod sets;
 mod table;
 
