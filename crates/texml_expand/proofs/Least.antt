@@ -6,12 +6,11 @@ use Rattle.texml_expand.specs.declared.feeding.Verdict.TheVariants.{TooShort, Yi
 use Rattle.texml_expand.specs.Next.{Taken, Given, Got, AtEnd, Invalid, next}
 use Rattle.texml_expand.specs.Codes.{cats_of, end_of}
 use Rattle.texml_expand.specs.State.{State, End, room, nothing, Answer, Done, Ended, Unfinished, Reading, after, chain, IsDecided, give, ◌>>=◌}
-use Rattle.texml_expand.specs.Expand.{take_given, take}
+use Rattle.texml_expand.specs.Take.{take_given, take}
 use Rattle.texml_expand.specs.Least.{inside_if, inside, inner_token, next_tokens, least, decides, decided, is_enough, by_tokens, by_least}
 use Rattle.texml_expand.specs.Contract.{Lower}
-use Rattle.texml_expand.proofs.Order.{decided_after}
-use Rattle.texml_expand.proofs.Falls.{Leads, leads_chain, leads_weaker, lower_none, lower_then, take_leads, count}
-use Rattle.texml_expand.proofs.Settle.{any, chain_decided, take_decided}
+use Rattle.texml_expand.proofs.Deciding.{decided_after, any, chain_decided, take_decided}
+use Rattle.texml_expand.proofs.Leading.{Leads, leads_chain, leads_weaker, lower_none, lower_then, take_leads, count}
 
 -- a choice
 pub choose_yes : {A : Type 0} (b : Bool) (x y : A) → b ≡ true → (if b then x else y) ≡ x

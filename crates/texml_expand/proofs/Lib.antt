@@ -8,6 +8,10 @@ pub mod Taking
 pub mod Putting
 pub mod Fresh
 pub mod Progress
+pub mod Stopping
+pub mod Leading
+pub mod Deciding
+pub mod Calling
 pub mod Order
 pub mod Falls
 pub mod Settle

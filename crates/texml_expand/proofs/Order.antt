@@ -1,10 +1,11 @@
 -- A deeper look answers what a less deep one has decided.
 use Rattle.std.proofs.Common.{Option, Some, None, ◌≡◌, ◌+◌, ◌-◌, ◌≤◌, ℕ, zero, suc, refl, sym, ap, ◌∙◌, subst, arith, add-suc, add-zero}
 use Rattle.texml_expand.specs.Contract.{Lower, Begins}
+pub use Rattle.texml_expand.proofs.Deciding.{after_decided, decided_after}
 use Rattle.texml_expand.proofs.Falls.{Leads, front_count, FrontLeads, front_leads, expand_leads}
 use Rattle.texml_expand.specs.State.{State, Gains, Answer, Done, Ended, Unfinished, Reading, after, chain, IsDecided}
 use Rattle.texml_token.specs.Token.{Token}
-use Rattle.texml_expand.specs.Expand.{Calls, Expandable, Body, Front, Nothing, Plain, Expands, front, meaning_of, expandable, expand, expand_as, expand_token, fetch_front, fetch_by, step, level, fetches, expands, expands_token}
+use Rattle.texml_expand.specs.Expand.{Calls, Expandable, Call, Front, Nothing, Plain, Expands, front, meaning_of, expandable, expand, expand_as, expand_token, fetch_front, fetch_by, step, level, fetches, expands, expands_token}
 
 -- b is what a is, once a is decided
 pub record Grows {A : Type 0} (a b : Answer A) : Type 0 where
@@ -15,16 +16,6 @@ grows_refl a = record { same = λ _. refl }
 
 pub grows_trans : {A : Type 0} {a b c : Answer A} → Grows a b → Grows b c → Grows a c
 grows_trans {a = a} {b = b} g h = record { same = λ d. h.same (subst IsDecided (sym (g.same d)) d) ∙ g.same d }
-
-pub after_decided : {A : Type 0} (gains : Gains) (a : Answer A) → IsDecided (after gains a) → IsDecided a
-after_decided gains (Done v s more) d = tt
-after_decided gains (Ended e more) d = tt
-after_decided gains (Unfinished more) d = d
-
-pub decided_after : {A : Type 0} (gains : Gains) (a : Answer A) → IsDecided a → IsDecided (after gains a)
-decided_after gains (Done v s more) d = tt
-decided_after gains (Ended e more) d = tt
-decided_after gains (Unfinished more) d = d
 
 pub chain_grows : {A B : Type 0} {a a' : Answer A} {f f' : A → Reading B} → Grows a a' → ((v : A) (s : State) → Grows (f v s) (f' v s)) → Grows (chain a f) (chain a' f')
 chain_grows {a = Done v s gains} {a' = a'} {f = f} {f' = f'} g h = record {
@@ -65,7 +56,7 @@ pub record GrowsCalls (G : State → Type 0) (c c' : Calls) : Type 0 where
 
 module _ (G : State → Type 0) (closed : IsClosed G) (c c' : Calls) (g : GrowsCalls G c c') where
   pub expand_grows : (t : Token) (e : Expandable) (s : State) → Grows (expand c t e s) (expand c' t e s)
-  expand_grows t (Body body) s = grows_refl _
+  expand_grows t (Call m) s = grows_refl _
 
   expand_as_grows : (t : Token) (e : Option Expandable) (s : State) → Grows (expand_as c t e s) (expand_as c' t e s)
   expand_as_grows t None s = grows_refl _

@@ -5,7 +5,9 @@ use Rattle.texml_watch.specs.declared.record.Record.{Record}
 use Rattle.texml_expand.specs.declared.stop.Stop.{Stop}
 use Rattle.texml_expand.specs.declared.stop.Stop.TheVariants as stop
 use Rattle.texml_expand.specs.State.{State, give}
-use Rattle.texml_expand.specs.Expand.{Expandable, Body, Front, Nothing, Plain, Expands, front, begin, finish, meaning_of, expandable, expand, expand_token, fetch_front, level, fetches, expands, expands_token}
+use Rattle.texml_expand.specs.Expand.{Expandable, Call, Front, Nothing, Plain, Expands, front, begin, finish, meaning_of, expandable, expand, expand_token, fetch_front, level, fetches, expands, expands_token}
+use Rattle.texml_scope.specs.Texts.{MacroText}
+use Rattle.texml_expand.specs.Arguments.{called}
 use Rattle.texml_expand.specs.Held.{Held, state_of, Kept, Progress}
 use Rattle.texml_expand.specs.Contract.{Silent, Lower, Begins, Stops, outside}
 use Rattle.texml_expand.specs.Hearing.{Meets, Follows}
@@ -28,9 +30,9 @@ begun_smaller j s t u within g h =
 
 module _ {T : Type 0} (hear part : T → Record → T → Type 0) where
   -- an expansion that can't begin
-  pub expand_stops : (t : Token) (body : List Token) (e : Stop) (s new : State) (a : T) → Silent (begin s) (Err e) new → Follows hear part (expands t (Body body) s) (Err e) new a a
-  expand_stops t body e s new a h =
-      follows_of hear part (expands t (Body body) s) (expand total t (Body body) s) (Err e) new a a (gives_expand t (Body body) s)
+  pub expand_stops : (t : Token) (m : MacroText) (e : Stop) (s new : State) (a : T) → Silent (begin s) (Err e) new → Follows hear part (expands t (Call m) s) (Err e) new a a
+  expand_stops t m e s new a h =
+      follows_of hear part (expands t (Call m) s) (expand total t (Call m) s) (Err e) new a a (gives_expand t (Call m) s)
       (meets_stop hear part (begin s) _ e new a a (meets_silent hear part (begin s) (Err e) new a h))
 
   -- want of memory before anything was told
@@ -44,12 +46,20 @@ module _ {T : Type 0} (hear part : T → Record → T → Type 0) where
       → Follows hear part (expands_token t s) r new a b
   follows_token t e r s new a b m g = record { answer = g.answer; given = gives_token t e s g.answer m g.given; meets = g.meets }
 
-  -- an expansion that began, and its end
-  pub expand_ends : (t : Token) (body : List Token) (r : Result (Unit {0}) Stop) (s mid new : State) (a b : T) → Silent (begin s) (Ok tt) mid → Meets hear part (finish t body mid) r new a b
-      → Follows hear part (expands t (Body body) s) r new a b
-  expand_ends t body r s mid new a b h k =
-      follows_of hear part (expands t (Body body) s) (expand total t (Body body) s) r new a b (gives_expand t (Body body) s)
-      (meets_then hear part (begin s) _ tt mid r new a a b (meets_silent hear part (begin s) (Ok tt) mid a h) k)
+  -- one that began, and whose arguments can't be read
+  pub expand_uncalled : (t : Token) (m : MacroText) (e : Stop) (s mid new : State) (a : T) → Silent (begin s) (Ok tt) mid → Silent (called m mid) (Err e) new → Follows hear part (expands t (Call m) s) (Err e) new a a
+  expand_uncalled t m e s mid new a h k =
+      follows_of hear part (expands t (Call m) s) (expand total t (Call m) s) (Err e) new a a (gives_expand t (Call m) s)
+      (meets_then hear part (begin s) _ tt mid (Err e) new a a a (meets_silent hear part (begin s) (Ok tt) mid a h)
+      (meets_stop hear part (called m mid) (finish t) e new a a (meets_silent hear part (called m mid) (Err e) new a k)))
+
+  -- one that began, and its end
+  pub expand_ends : (t : Token) (m : MacroText) (list : List Token) (r : Result (Unit {0}) Stop) (s mid now new : State) (a b : T) → Silent (begin s) (Ok tt) mid → Silent (called m mid) (Ok list) now
+      → Meets hear part (finish t list now) r new a b → Follows hear part (expands t (Call m) s) r new a b
+  expand_ends t m list r s mid now new a b h k f =
+      follows_of hear part (expands t (Call m) s) (expand total t (Call m) s) r new a b (gives_expand t (Call m) s)
+      (meets_then hear part (begin s) _ tt mid r new a a b (meets_silent hear part (begin s) (Ok tt) mid a h)
+      (meets_then hear part (called m mid) (finish t) list now r new a a b (meets_silent hear part (called m mid) (Ok list) now a k) f))
 
   expand_meets : (t : Token) (e : Expandable) (r : Result (Unit {0}) Stop) (s new : State) (a b : T) → Follows hear part (expands t e s) r new a b → Meets hear part (expand total t e s) r new a b
   expand_meets t e r s new a b g = subst (λ y. Meets hear part y r new a b) (sym (expand_given t e s g.answer g.given)) g.meets

@@ -6,7 +6,7 @@ use Rattle.texml_expand.specs.declared.feeding.Verdict.{Verdict}
 use Rattle.texml_expand.specs.declared.feeding.Verdict.TheVariants.{TooShort, Yields, Refuses}
 use Rattle.texml_expand.specs.Next.{Taken}
 use Rattle.texml_expand.specs.State.{room, nothing, Answer, Done, Ended, Unfinished, Reading, ◌>>=◌, give, fail}
-use Rattle.texml_expand.specs.Expand.{take}
+use Rattle.texml_expand.specs.Take.{take}
 
 -- a token inside a text: no text may have ended before it, and there must be one
 abbrev pub inside_if : Bool → Token → Reading Token

@@ -2,8 +2,10 @@ pub mod Rest
 pub mod Next
 pub mod Codes
 pub mod State
-pub mod Expand
+pub mod Take
 pub mod Least
+pub mod Arguments
+pub mod Expand
 pub mod Absorb
 pub mod Held
 pub mod Contract

@@ -1,6 +1,7 @@
 use Rattle.std.proofs.Common.{Some, sym, ap, ◌∙◌}
-use Rattle.texml_token.specs.Numbers.{token_at, tokens_at}
-use Rattle.texml_expand.specs.Expand.{Body, expandable}
+use Rattle.texml_token.specs.Numbers.{token_at}
+use Rattle.texml_expand.specs.Fronts.{macro_at}
+use Rattle.texml_expand.specs.Expand.{Call, expandable}
 use Rattle.texml_expand.specs.Held.{state_of}
 use Rattle.texml_expand.specs.Hearing.{hears, hears_part}
 use Rattle.texml_expand.proofs.Judging.{expands_by}
@@ -16,7 +17,7 @@ returns-in-Err-clause-follows g c = λ running.
 pub returns-clause-follows : goal.returns-clause-follows
 returns-clause-follows g c = λ running.
     let s = c.args.self.now in
-    follows_token (hears g.T.Teller.wanting g.T.Teller.heard) (hears_part g.T.Teller.wanting g.T.Teller.part) (token_at s.names c.args.token) (Body (tokens_at s.names c.in-Some.body))
+    follows_token (hears g.T.Teller.wanting g.T.Teller.heard) (hears_part g.T.Teller.wanting g.T.Teller.part) (token_at s.names c.args.token) (Call (macro_at s.names c.in-Some.found))
     c.expand.result (state_of s) (state_of c.expand.new.self) c.args.tell.now c.expand.new.tell
-    (ap expandable (sym c.in-Ok.ensures.means) ∙ expands_by s.names c.in-Ok.meaning (Some c.in-Some.body) (sym c.expandable.ensures ∙ c.in-Some.is))
+    (ap expandable (sym c.in-Ok.ensures.means) ∙ expands_by s.names c.in-Ok.meaning (Some c.in-Some.found) (sym c.expandable.ensures ∙ c.in-Some.is))
     c.expand.ensures.follows

@@ -1,6 +1,7 @@
 use Rattle.std.proofs.Common.{rules}
-use Rattle.texml_token.specs.Numbers.{token_at, tokens_at}
-use Rattle.texml_expand.specs.Expand.{Body}
+use Rattle.texml_token.specs.Numbers.{token_at}
+use Rattle.texml_expand.specs.Fronts.{macro_at}
+use Rattle.texml_expand.specs.Expand.{Call}
 use Rattle.texml_expand.proofs.Fronts.{kept_then}
 use Rattle.texml_expand.proofs.Rounds.{fetch_stops_front, fetch_ends, fetch_plain, fetch_stops_expand, fetching_on}
 use Rattle.texml_expand.proofs.Progress.{progress_then}
@@ -25,23 +26,15 @@ returns-in-Plain-clause-keeps g c = kept_then _ _ _ c.fronts.invariant.kept c.in
 pub returns-in_err-expand-in-Expands-clause-follows : goal.returns-in_err-expand-in-Expands-clause-follows
 returns-in_err-expand-in-Expands-clause-follows g c =
     let n = c.front.new.self.names in
-    let h = fetch_stops_expand _ _ (token_at n c.in-Expands.token) (Body (tokens_at n c.in-Expands.body)) _ _ _ _ _ _ _ _ c.fronts.invariant.onward (rw c.in-Expands.is at c.in_ok-front.ensures.fronts) c.in_err-expand-in-Expands.ensures.follows in
+    let h = fetch_stops_expand _ _ (token_at n c.in-Expands.token) (Call (macro_at n c.in-Expands.found)) _ _ _ _ _ _ _ _ c.fronts.invariant.onward (rw c.in-Expands.is at c.in_ok-front.ensures.fronts) c.in_err-expand-in-Expands.ensures.follows in
     search (rules, h)
-
-pub fronts-preserved-in_ok-expand-in-Expands : goal.fronts-preserved-in_ok-expand-in-Expands
-fronts-preserved-in_ok-expand-in-Expands g c =
-    let n = c.front.new.self.names in
-    let f = c.in_ok-front.ensures in
-    let e = c.in_ok-expand-in-Expands.ensures in
-    fetching_on _ _ g.T.Teller.faults (token_at n c.in-Expands.token) (Body (tokens_at n c.in-Expands.body)) _ _ _ _ _ _ _ c.fronts.invariant
-    (rw c.in-Expands.is at f.fronts) (rw c.in-Expands.is at f.lower) f.keeps e.follows e.stops e.begins f.progress e.progress e.keeps
 
 pub fronts-preserved : goal.fronts-preserved
 fronts-preserved g c =
     let n = c.front.new.self.names in
     let f = c.in_ok-front.ensures in
     let e = c.in_ok-expand-in-Expands.ensures in
-    fetching_on _ _ g.T.Teller.faults (token_at n c.in-Expands.token) (Body (tokens_at n c.in-Expands.body)) _ _ _ _ _ _ _ c.fronts.invariant
+    fetching_on _ _ g.T.Teller.faults (token_at n c.in-Expands.token) (Call (macro_at n c.in-Expands.found)) _ _ _ _ _ _ _ c.fronts.invariant
     (rw c.in-Expands.is at f.fronts) (rw c.in-Expands.is at f.lower) f.keeps e.follows e.stops e.begins f.progress e.progress e.keeps
 
 pub returns-in_err-front-clause-progress : goal.returns-in_err-front-clause-progress

@@ -1,0 +1,37 @@
+-- Readings that decide.
+use Rattle.std.proofs.Common.{Option, Some, None}
+use Rattle.texml_expand.specs.Next.{Taken, Given, Got, AtEnd, Invalid, next}
+use Rattle.texml_expand.specs.State.{State, Gains, Answer, Done, Ended, Unfinished, Reading, after, chain, IsDecided}
+use Rattle.texml_expand.specs.Codes.{cats_of, end_of}
+use Rattle.texml_expand.specs.Take.{take_given, take}
+use Rattle.texml_expand.proofs.Leading.{Leads}
+
+pub after_decided : {A : Type 0} (gains : Gains) (a : Answer A) → IsDecided (after gains a) → IsDecided a
+after_decided gains (Done v s more) d = tt
+after_decided gains (Ended e more) d = tt
+after_decided gains (Unfinished more) d = d
+
+pub decided_after : {A : Type 0} (gains : Gains) (a : Answer A) → IsDecided a → IsDecided (after gains a)
+decided_after gains (Done v s more) d = tt
+decided_after gains (Ended e more) d = tt
+decided_after gains (Unfinished more) d = d
+
+-- a chain decides where its first part does, and its second part behind each value that the first may give
+pub chain_decided : {A B : Type 0} (P : A → State → Type 0) (a : Answer A) (f : A → Reading B) → IsDecided a → Leads P a → ((v : A) (t : State) → P v t → IsDecided (f v t))
+    → IsDecided (chain a f)
+chain_decided P (Done v t gains) f d h go = decided_after gains (f v t) (go v t h)
+chain_decided P (Ended e gains) f d h go = tt
+chain_decided P (Unfinished gains) f d h go = d
+
+pub any : {A : Type 0} (a : Answer A) → Leads (λ v t. Unit {0}) a
+any (Done v t gains) = tt
+any (Ended e gains) = tt
+any (Unfinished gains) = tt
+
+given_decided : (g : Given) (s : State) → IsDecided (take_given g s)
+given_decided (Got t rest place) s = tt
+given_decided (AtEnd place) s = tt
+given_decided (Invalid c place) s = tt
+
+pub take_decided : (s : State) → IsDecided (take s)
+take_decided s = given_decided (next (cats_of s.world) (end_of s.world) s.rest s.place) s

@@ -1,0 +1,46 @@
+-- Tokens are taken and put back, and what a token means (The TeXbook, chapters 20 and 24).
+use Rattle.std.specs.Prelude.{ℕ, Bool, List, [], ◌∷◌, ◌++◌, map, Option, Some, None, pos, encode_utf8_all}
+use Rattle.texml_token.specs.Token.{Token, Char, Active, Param, Named, Fixed}
+use Rattle.texml_token.specs.declared.fault_code.TheConstants.{INVALID_CHAR}
+use Rattle.texml_token.specs.Spelling.{spelled}
+use Rattle.texml_scope.specs.declared.values.KeyOf.TheVariants.{Name}
+use Rattle.texml_scope.specs.Texts.{Meaning, World}
+use Rattle.texml_scope.specs.Values.{meaning_in}
+use Rattle.texml_scope.specs.declared.values.KeyOf.TheVariants.{Active as ActiveKey}
+use Rattle.texml_expand.specs.Rest.{Tok, back_as}
+use Rattle.texml_expand.specs.Next.{Taken, Given, Got, AtEnd, Invalid, next}
+use Rattle.texml_expand.specs.Codes.{cats_of, end_of}
+use Rattle.texml_expand.specs.State.{State, Tex, fault_at, nothing, Done, Ended, Reading}
+
+-- Taking
+
+-- the token that stands at the front of the rest, or the end
+abbrev pub take_given : Given → Reading (Option Taken)
+take_given (Got t rest place) s = Done (Some t) (record s { rest = rest; place = place }) nothing
+take_given (AtEnd place) s = Done None (record s { rest = []; place = place }) nothing
+take_given (Invalid c place) s = Ended (Tex (fault_at INVALID_CHAR [] place)) nothing
+
+abbrev pub take : Reading (Option Taken)
+take s = take_given (next (cats_of s.world) (end_of s.world) s.rest s.place) s
+
+-- a token goes back before the rest, perhaps kept from being expanded
+abbrev pub back : Token → Bool → State → State
+back t frozen s = record s { rest = back_as t frozen ∷ s.rest }
+
+-- tokens are put before the rest
+abbrev pub put : List Token → State → State
+put list s = record s { rest = map Tok list ++ s.rest }
+
+-- Meanings
+
+-- what a token means, if it is a name or an active character
+abbrev pub meaning_of : World → Token → Option Meaning
+meaning_of w (Char c category) = None
+meaning_of w (Active c) = Some (meaning_in (w.top (ActiveKey c)))
+meaning_of w (Param n) = None
+meaning_of w (Named text) = Some (meaning_in (w.top (Name text)))
+meaning_of w Fixed = None
+
+-- how a token is spelled in faults and records: with the escape character \
+abbrev pub spelling : Token → List ℕ
+spelling t = encode_utf8_all (spelled (pos 92) t)
