@@ -1,6 +1,8 @@
 pub mod Readings
 pub mod Looping
 pub mod Doing
+pub mod Parts
+pub mod NewCommands
 pub mod Commands
 pub mod Worlds
 pub mod ParameterTexts

@@ -25,11 +25,14 @@ abbrev pub needed_body : Option (List Token) → Reading (List Token)
 needed_body None = fail BAD_PARAMETER []
 needed_body (Some body) = give body
 
+abbrev pub body_said : ℕ → List Token → Reading (List Token)
+body_said slots list = needed_body (body_of slots list)
+
 -- the body that comes next of a macro with so many parameters, with the brace behind it
 abbrev pub next_body : ℕ → Reading (List Token)
 next_body slots = do
   list ← absorb
-  needed_body (body_of slots list)
+  body_said slots list
 
 -- a macro, long or not. A brace that ends its parameter text stands at the end of its body too
 abbrev pub macro_of : {T : Type 0} → Bool → Head T → List T → MacroBy T

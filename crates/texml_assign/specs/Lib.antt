@@ -6,8 +6,10 @@ pub mod Sets
 pub mod Parameters
 pub mod TextFeeding
 pub mod Define
+pub mod NewCommand
 pub mod Execute
 pub mod Advance
 pub mod Doing
 pub mod Setting
 pub mod Behind
+pub mod Allowing

@@ -8,9 +8,9 @@ ghost use Rattle.texml_expand.specs.Hearing.{hears, hears_part};
 ghost use Rattle.texml_expand.specs.Held.{state_of, Sound, Kept, ok_at};
 ghost use Rattle.texml_assign.specs.Doing.{Does};
 ghost use Rattle.texml_assign.specs.Operands.{meant as spec_meant};
-ghost use Rattle.texml_assign.specs.Parameters.{body_of as spec_body_of, head_at};
+ghost use Rattle.texml_assign.specs.Parameters.{head_at};
 ghost use Rattle.texml_assign.specs.TextFeeding.{HeadWithin};
-ghost use Rattle.texml_assign.specs.Define.{parameter_text as spec_parameter_text, needed_body as spec_needed_body, next_body as spec_next_body, macro_of as spec_macro_of, defined as spec_defined, assigned};
+ghost use Rattle.texml_assign.specs.Define.{parameter_text as spec_parameter_text, body_said as spec_body_said, next_body as spec_next_body, macro_of as spec_macro_of, defined as spec_defined, assigned};
 
 use crate::operands::{look_ahead, meant, next_key};
 use crate::parameters::{Head, ParameterText, body_of};
@@ -126,15 +126,20 @@ fn next_body<F: Files, T: Teller>(
     ensures files { files.new ≡ files.old }
 {
     let list = engine.absorb(files, tell)?;
-    needed_body(alloc, engine, slots, &list)
+    body_said(alloc, engine, slots, &list)
 }
 
-// The body that tokens are, which must be one.
-fn needed_body(alloc: Global, engine: &mut Engine, slots: u8, list: &Tokens) -> Result<Tokens, Stop>
+/// The body that tokens are for a macro with so many parameters, which must be one.
+///
+/// # Errors
+///
+/// `Tex` with fault 14 where something else stands behind a parameter character than another one or the number of a
+/// parameter, and `NoMemory` where memory was refused.
+pub fn body_said(alloc: Global, engine: &mut Engine, slots: u8, list: &Tokens) -> Result<Tokens, Stop>
     requires running { engine.old.stop ≡ None }
     requires sound { Sound engine.old }
     requires list { TokensWithin (length engine.old.names) list.now }
-    ensures needs { Silent (spec_needed_body (spec_body_of slots (tokens_at engine.old.names list.now)) (state_of engine.old)) (ok_at (tokens_at engine.new.names) result) (state_of engine.new) }
+    ensures needs { Silent (spec_body_said slots (tokens_at engine.old.names list.now) (state_of engine.old)) (ok_at (tokens_at engine.new.names) result) (state_of engine.new) }
     ensures kept { engine.new.stop ≡ stop_after result }
     ensures keeps { OnOk result (Kept engine.old engine.new) }
     ensures is { engine.new ≡ record engine.old { stop = engine.new.stop } }

@@ -17,6 +17,7 @@ ghost use Rattle.texml_assign.specs.Behind.{turn_of};
 
 use crate::define::{define, let_to};
 use crate::meaning::meaning_of;
+use crate::new_command::new_command;
 use crate::operands::{is_space, next_token};
 use crate::sets::{begin_group, end_group, put_kept, read_after};
 use crate::table::{
@@ -228,6 +229,10 @@ fn row<F: Files, T: Teller>(
         }
         Command::AfterAssignment => {
             after_assignment(engine, files, tell)?;
+            Ok(())
+        }
+        Command::NewCommand(naming) => {
+            new_command(alloc, engine, files, tell, naming)?;
             Ok(())
         }
     }

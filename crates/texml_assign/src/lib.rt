@@ -10,6 +10,7 @@
 mod define;
 mod executing;
 mod meaning;
+mod new_command;
 mod operands;
 mod parameters;
 mod sets;

@@ -114,8 +114,12 @@ pub fn next_key<F: Files, T: Teller>(
     key_of(engine, token)
 }
 
-// What a token names that may be defined: a name or an active character.
-fn key_of(engine: &mut Engine, token: Token) -> Result<Key, Stop>
+/// What a token names that may be defined: a name or an active character.
+///
+/// # Errors
+///
+/// `Tex` with fault 18 where it is another token.
+pub fn key_of(engine: &mut Engine, token: Token) -> Result<Key, Stop>
     requires running { engine.old.stop ≡ None }
     requires sound { Sound engine.old }
     requires token { TokenWithin (length engine.old.names) token }

@@ -6,7 +6,7 @@ use Rattle.texml_expand.specs.Held.{state_of}
 use Rattle.texml_expand.proofs.Taking.{silent_fault}
 use Rattle.texml_assign.specs.Parameters.{body_of}
 use Rattle.texml_assign.specs.Define.{needed_body}
-use Rattle.texml_assign.proofs.define.needed_body.Goals as goal
+use Rattle.texml_assign.proofs.define.body_said.Goals as goal
 
 pub returns-in-Ok-Some-clause-needs : goal.returns-in-Ok-Some-clause-needs
 returns-in-Ok-Some-clause-needs c =
