@@ -218,18 +218,18 @@ slots_push [] n = refl
 slots_push (Just t ∷ ps) n = slots_push ps n
 slots_push (Slot m ∷ ps) n = let e = slots_push ps n in omega (arith, e)
 
-pub slots_numbered : {T : Type 0} (n : ℕ) → slots_in (numbered {T = T} n) ≡ n
-slots_numbered zero = refl
-slots_numbered {T = T} (suc n) = slots_push (numbered {T = T} n) (suc n) ∙ (let e = slots_numbered {T = T} n in omega (arith, e))
+pub slots_numbered : (T : Type 0) (n : ℕ) → slots_in (numbered {T = T} n) ≡ n
+slots_numbered T zero = refl
+slots_numbered T (suc n) = slots_push (numbered {T = T} n) (suc n) ∙ (let e = slots_numbered T n in omega (arith, e))
 
 number_push : {T : Type 0} (before : ℕ) (ps : List (PieceOf T)) (n : ℕ) → AreNumberedFrom before ps → n ≡ before + slots_in ps → AreNumberedFrom before (ps ++ Slot n ∷ [])
 number_push before [] n g e = (e ∙ omega arith, tt)
 number_push before (Just t ∷ ps) n g e = number_push before ps n g e
 number_push before (Slot m ∷ ps) n g e = (g.0, number_push (1 + before) ps n g.1 (omega (arith, e)))
 
-pub numbered_from : {T : Type 0} (n : ℕ) → AreNumberedFrom 1 (numbered {T = T} n)
-numbered_from zero = tt
-numbered_from {T = T} (suc n) = number_push 1 (numbered {T = T} n) (suc n) (numbered_from {T = T} n) (let e = slots_numbered {T = T} n in omega (arith, e))
+pub numbered_from : (T : Type 0) (n : ℕ) → AreNumberedFrom 1 (numbered {T = T} n)
+numbered_from T zero = tt
+numbered_from T (suc n) = number_push 1 (numbered {T = T} n) (suc n) (numbered_from T n) (let e = slots_numbered T n in omega (arith, e))
 
 pub numbered_within : (count n : ℕ) → All (PieceWithin count) (numbered {T = TokenCode} n)
 numbered_within count zero = All-nil (PieceWithin count)
@@ -240,10 +240,10 @@ begin_push [] p h = absurd h
 begin_push (Just t ∷ ps) p h = absurd h
 begin_push (Slot m ∷ ps) p h = tt
 
-pub numbered_begins : {T : Type 0} (n : ℕ) → 1 ≤ n → BeginsWithSlot (numbered {T = T} n)
-numbered_begins zero le = absurd (omega (arith, le))
-numbered_begins (suc zero) le = tt
-numbered_begins {T = T} (suc (suc n)) le = begin_push (numbered {T = T} (suc n)) (Slot (suc (suc n))) (numbered_begins {T = T} (suc n) (omega arith))
+pub numbered_begins : (T : Type 0) (n : ℕ) → 1 ≤ n → BeginsWithSlot (numbered {T = T} n)
+numbered_begins T zero le = absurd (omega (arith, le))
+numbered_begins T (suc zero) le = tt
+numbered_begins T (suc (suc n)) le = begin_push (numbered {T = T} (suc n)) (Slot (suc (suc n))) (numbered_begins T (suc n) (omega arith))
 
 -- The only token of a list
 
@@ -308,7 +308,7 @@ command_at texts long slots default body made e =
 
 default_fits : (slots : ℕ) (default : Option (List TokenCode)) → IfSome default (λ list. 1 ≤ slots) → DefaultFits default (numbered {T = TokenCode} slots)
 default_fits slots None h = tt
-default_fits slots (Some list) h = numbered_begins {T = TokenCode} slots h
+default_fits slots (Some list) h = numbered_begins TokenCode slots h
 
 pub command_within : (count : ℕ) (long : Bool) (slots : ℕ) (default : Option (List TokenCode)) (body : List TokenCode) → slots ≤ 9 → OptionWithin (TokensWithin count) default → IfSome default (λ list. 1 ≤ slots) → BodyWithin count slots body
     → MacroWithin count (command_of long slots default body)
@@ -316,9 +316,9 @@ command_within count long slots default body few w fits v = record {
   params = record {
     default = w;
     pieces = numbered_within count slots;
-    shape = record { numbered = numbered_from {T = TokenCode} slots; few = (let e = slots_numbered {T = TokenCode} slots in omega (arith, e, few)); default = default_fits slots default fits };
+    shape = record { numbered = numbered_from TokenCode slots; few = (let e = slots_numbered TokenCode slots in omega (arith, e, few)); default = default_fits slots default fits };
   };
-  body = subst (λ n. BodyWithin count n body) (sym (slots_numbered {T = TokenCode} slots)) v;
+  body = subst (λ n. BodyWithin count n body) (sym (slots_numbered TokenCode slots)) v;
 }
 
 -- a default stays as the table grows

@@ -138,7 +138,7 @@ fn command_key<F: Files, T: Teller>(
 // The only token of a list, spaces aside.
 fn only_token(list: &Tokens) -> Option<Token>
     ensures is { (texts : Table) → option_map (token_at texts) result ≡ spec_only_token (tokens_at texts list.now) }
-    ensures within { (count : ℕ) → TokensWithin count list.now → IfSome result (TokenWithin count) }
+    ensures within { (count : ℕ) → TokensWithin count list.now → OptionWithin (TokenWithin count) result }
 {
     let mut only = None;
     for token in list.as_slice() {
@@ -194,7 +194,7 @@ fn defines(alloc: Global, engine: &mut Engine, naming: Naming, token: Token) -> 
         Ok(meaning) => meaning,
         Err(_) => return Err(engine.no_memory()),
     };
-    match allowed(naming, &meaning) {
+    match judged(naming, &meaning) {
         Allowed::Defines => Ok(true),
         Allowed::Stays => Ok(false),
         Allowed::Taken => Err(name_taken(alloc, engine, token)),
@@ -203,7 +203,7 @@ fn defines(alloc: Global, engine: &mut Engine, naming: Naming, token: Token) -> 
 }
 
 // Whether a name of this meaning is to be defined.
-fn allowed(naming: Naming, meaning: &Meaning) -> Allowed
+fn judged(naming: Naming, meaning: &Meaning) -> Allowed
     ensures { (texts : Table) → (t : TokenText) → (s : State) → spec_defines naming t (meaning_at texts meaning.now) s ≡ allowed_as result t s }
 {
     match naming {

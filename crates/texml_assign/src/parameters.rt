@@ -32,7 +32,8 @@ pub type Head = HeadOf<Token, Pieces>;
 
 /// The digit that a token is: a character from 0 to 9 of category 12.
 pub fn digit(token: Token) -> Option<u8>
-    ensures { (texts : Table) → result ≡ spec_digit (token_at texts token) }
+    ensures is { (texts : Table) → result ≡ spec_digit (token_at texts token) }
+    ensures few { IfSome result (λ number. number ≤ 9) }
 {
     match token {
         Token::Char(code, found) if found == category::OTHER && ZERO <= code && code <= NINE => {

@@ -1,4 +1,4 @@
-use Rattle.std.proofs.Common.{Ok, Err, refl, sym, ap, subst, rules}
+use Rattle.std.proofs.Common.{length, Ok, Err, refl, sym, ap, subst, rules}
 use Rattle.std.specs.Option.{option_map}
 use Rattle.texml_token.specs.Numbers.{token_at, tokens_at}
 use Rattle.texml_scope.specs.Numbers.{key_at}
@@ -26,3 +26,6 @@ returns-clause-does g c =
     does_then _ _ (λ n. read_argument) (λ v n. name_said naming v) (lawful_plain read_argument plain_argument) (λ v. lawful_plain (name_said naming v) (plain_name_said naming v)) v _ old mid new _ _ _ _ _ _
     (does_silent _ _ read_argument plain_argument (Ok v) old mid _ _ _ _ _ _ (ap g.F.Files.faults a.files) (ap g.T.Teller.faults a.tell) a.tell (a.reads run) (a.kept run) (a.keeps run) (advances_progress old mid a.progress))
     (does_silent _ _ (name_said naming v) (plain_name_said naming v) (ok_at (option_map (key_at new.names)) r) mid new _ _ _ _ _ _ refl refl refl (subst (λ o. Silent (key_of_name naming o (state_of mid)) (ok_at (option_map (key_at new.names)) r) (state_of new)) (c.only_token.ensures.is mid.names) n.needs) (kept_of (option_map (key_at new.names)) r new.stop n.kept) (keeps_of (option_map (key_at new.names)) r (Kept mid new) n.keeps) (advances_stopped mid new new.stop n.is))
+
+pub key_of_name-requires-clause-name : goal.key_of_name-requires-clause-name
+key_of_name-requires-clause-name g c = c.only_token.ensures.within (length c.read_argument.new.self.names) (c.in_ok-list.ensures.within c.requires.running)

@@ -12,23 +12,23 @@ use Rattle.texml_assign.proofs.new_command.defines.Goals as goal
 pub returns-in-Defines-clause-defines : goal.returns-in-Defines-clause-defines
 returns-in-Defines-clause-defines c =
     let h = c.args.engine.now in let t = token_at h.names c.args.token in
-    ap (λ m. defines c.args.naming t m (state_of h)) (sym c.in-Ok.ensures.means) ∙ c.allowed.ensures h.names t (state_of h) ∙ ap (λ a. allowed_as a t (state_of h)) c.in-Defines.is
+    ap (λ m. defines c.args.naming t m (state_of h)) (sym c.in-Ok.ensures.means) ∙ c.judged.ensures h.names t (state_of h) ∙ ap (λ a. allowed_as a t (state_of h)) c.in-Defines.is
 
 pub returns-in-Stays-clause-defines : goal.returns-in-Stays-clause-defines
 returns-in-Stays-clause-defines c =
     let h = c.args.engine.now in let t = token_at h.names c.args.token in
-    ap (λ m. defines c.args.naming t m (state_of h)) (sym c.in-Ok.ensures.means) ∙ c.allowed.ensures h.names t (state_of h) ∙ ap (λ a. allowed_as a t (state_of h)) c.in-Stays.is
+    ap (λ m. defines c.args.naming t m (state_of h)) (sym c.in-Ok.ensures.means) ∙ c.judged.ensures h.names t (state_of h) ∙ ap (λ a. allowed_as a t (state_of h)) c.in-Stays.is
 
 pub returns-in-Taken-clause-defines : goal.returns-in-Taken-clause-defines
 returns-in-Taken-clause-defines c =
     let h = c.args.engine.now in let t = token_at h.names c.args.token in
     silent_fault (defines_now c.args.naming t (state_of h)) NAME_TAKEN (spelling t) h.place c.name_taken.result (state_of c.name_taken.new.engine)
-    (ap (λ m. defines c.args.naming t m (state_of h)) (sym c.in-Ok.ensures.means) ∙ c.allowed.ensures h.names t (state_of h) ∙ ap (λ a. allowed_as a t (state_of h)) c.in-Taken.is)
+    (ap (λ m. defines c.args.naming t m (state_of h)) (sym c.in-Ok.ensures.means) ∙ c.judged.ensures h.names t (state_of h) ∙ ap (λ a. allowed_as a t (state_of h)) c.in-Taken.is)
     c.name_taken.ensures.is
 
-pub returns-in-Missing-clause-defines : goal.returns-in-Missing-clause-defines
-returns-in-Missing-clause-defines c =
+pub returns-clause-defines : goal.returns-clause-defines
+returns-clause-defines c =
     let h = c.args.engine.now in let t = token_at h.names c.args.token in
     silent_fault (defines_now c.args.naming t (state_of h)) UNDEFINED (spelling t) h.place c.undefined.result (state_of c.undefined.new.self)
-    (ap (λ m. defines c.args.naming t m (state_of h)) (sym c.in-Ok.ensures.means) ∙ c.allowed.ensures h.names t (state_of h) ∙ ap (λ a. allowed_as a t (state_of h)) c.in-Missing.is)
+    (ap (λ m. defines c.args.naming t m (state_of h)) (sym c.in-Ok.ensures.means) ∙ c.judged.ensures h.names t (state_of h) ∙ ap (λ a. allowed_as a t (state_of h)) c.in-Missing.is)
     c.undefined.ensures.is

@@ -5,7 +5,7 @@ use Rattle.texml_assign.specs.Parameters.{digit}
 use Rattle.texml_assign.proofs.new_command.only_digit.Goals as goal
 
 pub returns-in-Some-clause-is : goal.returns-in-Some-clause-is
-returns-in-Some-clause-is c = λ texts. c.digit.ensures texts ∙ ap (option_and_then digit) (sym (ap (option_map (token_at texts)) c.in-Some.is) ∙ c.only_token.ensures.is texts)
+returns-in-Some-clause-is c = λ texts. c.digit.ensures.is texts ∙ ap (option_and_then digit) (sym (ap (option_map (token_at texts)) c.in-Some.is) ∙ c.only_token.ensures.is texts)
 
 pub returns-in-None-clause-is : goal.returns-in-None-clause-is
 returns-in-None-clause-is c = λ texts. ap (option_and_then digit) (sym (ap (option_map (token_at texts)) c.in-None.is) ∙ c.only_token.ensures.is texts)
