@@ -135,7 +135,12 @@ fn next_body<F: Files, T: Teller>(
 ///
 /// `Tex` with fault 14 where something else stands behind a parameter character than another one or the number of a
 /// parameter, and `NoMemory` where memory was refused.
-pub fn body_said(alloc: Global, engine: &mut Engine, slots: u8, list: &Tokens) -> Result<Tokens, Stop>
+pub fn body_said(
+    alloc: Global,
+    engine: &mut Engine,
+    slots: u8,
+    list: &Tokens,
+) -> Result<Tokens, Stop>
     requires running { engine.old.stop ≡ None }
     requires sound { Sound engine.old }
     requires list { TokensWithin (length engine.old.names) list.now }

@@ -358,11 +358,7 @@ fn first_default<F: Files, T: Teller>(
 }
 
 // A default, which must have a parameter.
-fn fitting(
-    engine: &mut Engine,
-    slots: u8,
-    default: Option<Tokens>,
-) -> Result<Option<Tokens>, Stop>
+fn fitting(engine: &mut Engine, slots: u8, default: Option<Tokens>) -> Result<Option<Tokens>, Stop>
     requires running { engine.old.stop ≡ None }
     requires sound { Sound engine.old }
     requires default { OptionWithin (TokensWithin (length engine.old.names)) default }

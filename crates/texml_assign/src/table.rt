@@ -4,8 +4,8 @@ ghost use Rattle.std.specs.Prelude.{◌≡◌};
 ghost use Rattle.texml_assign.specs.Table.{executable_at, is_definition, is_assignment, with_prefix, may_follow};
 
 use texml_scope::builtins::{
-    AFTERASSIGNMENT, AFTERGROUP, BEGINGROUP, DEF, ENDGROUP, GDEF, GLOBAL, LET, LONG, NEWCOMMAND, OUTER,
-    PROVIDECOMMAND, RELAX, RENEWCOMMAND,
+    AFTERASSIGNMENT, AFTERGROUP, BEGINGROUP, DEF, ENDGROUP, GDEF, GLOBAL, LET, LONG, NEWCOMMAND,
+    OUTER, PROVIDECOMMAND, RELAX, RENEWCOMMAND,
 };
 
 /// A prefix of commands (The TeXbook, chapter 24).

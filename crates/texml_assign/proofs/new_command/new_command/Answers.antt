@@ -1,4 +1,4 @@
-use Rattle.std.proofs.Common.{not, Some, None, refl, sym, ap, subst, ◌∙◌, rules}
+use Rattle.std.proofs.Common.{false, not, Option, Some, None, refl, sym, ap, subst, ◌∙◌, rules}
 use Rattle.std.specs.Option.{option_map}
 use Rattle.texml_scope.specs.Texts.{Key}
 use Rattle.texml_scope.specs.Numbers.{key_at, meaning_at}
@@ -50,7 +50,7 @@ returns-in-Some-clause-does g c =
 pub returns-in-None-clause-does : goal.returns-in-None-clause-does
 returns-in-None-clause-does g c =
     let naming = c.args.naming in let f = c.in_ok-star.ensures.does in let star = c.in_ok-star.star in
-    let e1 = c.command_key.new.engine in let o : _ = None {A = Key} in let k = rw c.in-None.is at c.in_ok-key.ensures.does in
+    let e1 = c.command_key.new.engine in let o : Option Key = None in let k = rw c.in-None.is at c.in_ok-key.ensures.does in
     let m = c.in_ok-meaning.ensures.does in let e2 = c.command_macro.new.engine in let v = meaning_at e2.names c.in_ok-meaning.meaning in
     does_then _ _ starred (λ star n. star_read naming star) lawful_starred (λ star. lawful_plain (star_read naming star) (plain_star_read naming star)) star _ _ _ _ _ _ _ _ _ _ f
     (does_then _ _ (λ n. command_key naming) (λ o n. key_read star o) (lawful_plain (command_key naming) (plain_command_key naming)) (λ o. lawful_plain (key_read star o) (plain_key_read star o)) o _ _ _ _ _ _ _ _ _ _ k

@@ -17,17 +17,17 @@ loop-token-preserved c =
     let lt : l.token-index < length c.args.list.now = rw c.as_slice-token-items.ensures at c.loop-token-test.true in
     elim c.if-not-has_category.branch [
       | then-not-has_category+else-is_some w ↦ record {
-          is = λ texts.
-              let is = rw c.as_slice-token-items.ensures at (sym (c.has_category.ensures texts) ∙ w.if-not-has_category.true) in
-              only_first c.args.list.now texts l.only c.if-not-has_category.only l.token-index _ lt is (sym w.is_some.ensures ∙ w.if-is_some.false) (rw c.as_slice-token-items.ensures at w.only-is) (l.invariant.is texts);
-          within = λ count h. subst (OptionWithin (TokenWithin count)) (sym (rw c.as_slice-token-items.ensures at w.only-is)) (h l.token-index _ lt);
-        }
+        is = λ texts.
+            let is = rw c.as_slice-token-items.ensures at (sym (c.has_category.ensures texts) ∙ w.if-not-has_category.true) in
+            only_first c.args.list.now texts l.only c.if-not-has_category.only l.token-index _ lt is (sym w.is_some.ensures ∙ w.if-is_some.false) (rw c.as_slice-token-items.ensures at w.only-is) (l.invariant.is texts);
+        within = λ count h. subst (OptionWithin (TokenWithin count)) (sym (rw c.as_slice-token-items.ensures at w.only-is)) (h l.token-index _ lt);
+      }
       | else-not-has_category w ↦ record {
-          is = λ texts.
-              let is = rw c.as_slice-token-items.ensures at (sym (c.has_category.ensures texts) ∙ w.if-not-has_category.false) in
-              only_space c.args.list.now texts l.only c.if-not-has_category.only l.token-index _ lt is w.only-is (l.invariant.is texts);
-          within = λ count h. subst (OptionWithin (TokenWithin count)) (sym w.only-is) (l.invariant.within count h);
-        }
+        is = λ texts.
+            let is = rw c.as_slice-token-items.ensures at (sym (c.has_category.ensures texts) ∙ w.if-not-has_category.false) in
+            only_space c.args.list.now texts l.only c.if-not-has_category.only l.token-index _ lt is w.only-is (l.invariant.is texts);
+        within = λ count h. subst (OptionWithin (TokenWithin count)) (sym w.only-is) (l.invariant.within count h);
+      }
     ]
 
 pub returns-clause-is : goal.returns-clause-is
