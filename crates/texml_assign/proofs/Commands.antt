@@ -1,11 +1,10 @@
 -- Each command has one answer, and leaves no more to be read.
-use Rattle.std.proofs.Common.{◌≡◌, ◌+◌, ℕ, zero, suc, Bool, true, false, if◌then◌else◌, List, [], ◌∷◌, length, length-append, map, ◌++◌, ◌≤◌, Option, Some, None, Ok, Err, refl, sym, ap, ◌∙◌, arith, ◌&&◌, ◌==◌}
-use Rattle.std.specs.List.{list_any, sum_by}
+use Rattle.std.proofs.Common.{◌≡◌, ◌+◌, ℕ, zero, suc, Bool, true, false, if◌then◌else◌, List, [], ◌∷◌, length, length-append, map, ◌++◌, ◌≤◌, Option, Some, None, Ok, Err, refl, sym, ap, ◌∙◌, arith}
+use Rattle.std.specs.List.{sum_by}
 use Rattle.std.specs.Option.{option_to_list}
-use Rattle.std.proofs.lemmas.List.Sums.{sum_by-cons, sum_by-append}
-use Rattle.texml_token.specs.Token.{Token, Char, Active, Named, Fixed, has_category}
-use Rattle.texml_token.specs.declared.category.TheConstants.{BEGIN_GROUP, END_GROUP, PARAMETER}
-use Rattle.texml_token.specs.declared.fault_code.TheConstants.{FILE_ENDED, BAD_PARAMETER, MISSING_BRACE, BAD_PREFIX}
+use Rattle.std.proofs.lemmas.List.Sums.{sum_by-cons}
+use Rattle.texml_token.specs.Token.{Token, Active, Named}
+use Rattle.texml_token.specs.declared.fault_code.TheConstants.{BAD_PREFIX}
 use Rattle.texml_scope.specs.declared.values.FaultOf.TheVariants.{WrongGroup}
 use Rattle.texml_scope.specs.Groups.{Open, put_below, begin_group, keep_in, end_in}
 use Rattle.texml_scope.specs.Texts.{Key, Kind, Value, Meaning, key_eq, kind_eq}
@@ -15,11 +14,10 @@ use Rattle.texml_scope.specs.declared.values.KindOf.TheVariants.{Begin}
 use Rattle.texml_expand.specs.Next.{Taken, Given, Got, AtEnd, Invalid, next}
 use Rattle.texml_expand.specs.Codes.{cats_of, end_of}
 use Rattle.texml_expand.specs.Absorb.{absorbed, absorb}
-use Rattle.texml_expand.specs.Least.{inside_if, inside, inner_token, next_tokens, least, is_enough, decided}
+use Rattle.texml_expand.specs.Least.{inside_if, inside, inner_token, next_tokens, least, is_enough, decided, by_least}
 use Rattle.texml_expand.specs.declared.feeding.Verdict.{Verdict}
 use Rattle.texml_expand.specs.declared.feeding.Verdict.TheVariants.{TooShort, Yields, Refuses}
-use Rattle.texml_expand.proofs.Least.{Takes, take_takes, by_least_decided}
-use Rattle.texml_expand.proofs.Groups.{absorb_leads}
+use Rattle.texml_expand.proofs.Least.{Takes, take_takes, Decides, by_least_decided, by_least_leads}
 use Rattle.texml_expand.specs.State.{State, nothing, room, Done, Reading, chain, IsDecided, give, fail, change}
 use Rattle.texml_expand.specs.Expand.{take_given, take, back, put, level}
 use Rattle.texml_expand.specs.Contract.{Lower}
@@ -31,261 +29,23 @@ use Rattle.texml_expand.proofs.Settle.{any, chain_decided, take_decided}
 use Rattle.texml_expand.proofs.Total.{depth, decides}
 use Rattle.texml_assign.specs.declared.table.Prefix.{Prefix as PrefixWord}
 use Rattle.texml_assign.specs.declared.table.Command.{Command as CommandWord}
-use Rattle.texml_assign.specs.declared.table.Command.TheVariants.{Relax, Def, Gdef, Let, BeginGroup, EndGroup, AfterGroup, AfterAssignment}
+use Rattle.texml_assign.specs.declared.table.Command.TheVariants.{Relax, Def, Gdef, Let, BeginGroup, EndGroup, AfterGroup, AfterAssignment, NewCommand}
 use Rattle.texml_assign.specs.declared.table.Executable.{Executable}
 use Rattle.texml_assign.specs.declared.table.Executable.TheVariants.{Prefix, Command}
 use Rattle.texml_assign.specs.declared.table.Prefixes.{Prefixes}
-use Rattle.texml_assign.specs.declared.executing.Executed.{Executed}
 use Rattle.texml_assign.specs.declared.executing.Executed.TheVariants.{Yes, NotMine}
 use Rattle.texml_assign.specs.Table.{executable_of, is_assignment, no_prefixes, with_prefix, may_follow}
-use Rattle.texml_assign.specs.Loop.{ByDepth, Next, On, Over, Loop, loops}
+use Rattle.texml_assign.specs.Loop.{ByDepth, On, Over}
 use Rattle.texml_assign.specs.Meaning.{means}
-use Rattle.texml_assign.specs.Operands.{needed, next_token, token_of, token_or_end, key_of, next_key, is_space, space_turn, spaces_loop, behind_spaces, is_equals, behind_space, behind_sign, behind_equals, meaning_now, meant}
+use Rattle.texml_assign.specs.Operands.{needed, next_token, token_of, token_or_end, key_of, next_key, is_space, space_turn, spaces_loop, behind_spaces, is_equals, behind_space, behind_sign, behind_equals, meaning_now, meant, with_token, look_ahead}
+use Rattle.texml_assign.specs.Parameters.{Head, text_of, body_of}
+use Rattle.texml_assign.specs.Define.{parameter_text, needed_body, body_said, next_body, macro_of, defined, assigned}
 use Rattle.texml_assign.specs.Sets.{assign, begin_kind, ended, end_kind, read_after, keep, keep_token, put_kept_of, put_kept}
-use Rattle.texml_assign.specs.Execute.{open_brace, plain_body, macro_of, defined, assigned, with_token, row, behind, perform, followed, prefix_word, prefix_turn, prefix_loop, prefixed, execute_prefixed, execute_word, execute_by, execute}
+use Rattle.texml_assign.specs.Execute.{row, behind, perform, followed, prefix_word, prefix_turn, prefix_loop, prefixed, execute_prefixed, execute_word, execute_by, execute}
 use Rattle.texml_assign.proofs.Readings.{IsUnlimited, unlimited_chain, Lawful, Plain, lawful_plain, lawful_by, lawful_then, plain_by, plain_give, plain_fail, plain_change, plain_if, plain_then}
 use Rattle.texml_assign.proofs.Looping.{LawfulLoop, lawful_loop}
-
--- a state of which no more is to be read
-pub same_room : (s t : State) → t.limit ≡ s.limit → t.nesting ≡ s.nesting → t.begun ≡ s.begun → room t ≤ room s → Lower 0 s t
-same_room s t limit nesting begun less = record { limit = limit; nesting = nesting; begun = omega arith; size = λ _. omega arith; within = λ w. omega arith }
-
--- Tokens
-
-given_unlimited : (s : State) (g : Given) → IsUnlimited (take_given g s)
-given_unlimited s (Got t rest place) = tt
-given_unlimited s (AtEnd place) = tt
-given_unlimited s (Invalid c place) = tt
-
-plain_take : Plain take
-plain_take = record { decided = take_decided; unlimited = λ s. given_unlimited s (next (cats_of s.world) (end_of s.world) s.rest s.place); falls = λ s. leads_weaker (λ o t. Lower (count o) s t) (λ o t. Lower 0 s t) (take s) (λ o t g. lower_then (count o) 0 0 s t t g (lower_none t) (omega arith)) (take_leads s) }
-
-pub plain_token_or_end : Plain token_or_end
-plain_token_or_end = plain_then take (λ o. give (token_of o)) plain_take (λ o. plain_give (token_of o))
-
-pub plain_needed : (o : Option Token) → Plain (needed o)
-plain_needed None = plain_fail _ _ _
-plain_needed (Some t) = plain_give t
-
-pub plain_next : Plain next_token
-plain_next = plain_then token_or_end needed plain_token_or_end plain_needed
-
-pub plain_key_of : (t : Token) → Plain (key_of t)
-plain_key_of (Active c) = plain_give _
-plain_key_of (Named t) = plain_give _
-plain_key_of t = plain_fail _ _ _
-
-pub plain_next_key : Plain next_key
-plain_next_key = plain_then next_token key_of plain_next plain_key_of
-
-count_of : (o : Option Taken) → count (token_of o) ≡ count o
-count_of None = refl
-count_of (Some t) = refl
-
--- each token that is taken leaves less to be read, and no expansion begins
-pub token_takes : (s : State) → Leads (λ o t. Takes (count o) s t) (token_or_end s)
-token_takes s = leads_chain (λ o t. Takes (count o) s t) (λ o t. Takes (count o) s t) (take s) (λ o. give (token_of o)) (take_takes s) (λ o t low. rw (count_of o) low)
-
-token_lowers : (s : State) → Leads (λ o t. Lower (count o) s t) (token_or_end s)
-token_lowers s = leads_chain (λ o t. Lower (count o) s t) (λ o t. Lower (count o) s t) (take s) (λ o. give (token_of o)) (take_leads s) (λ o t low. rw (count_of o) low)
-
--- Spaces
-
-pub plain_space_turn : (seen : Unit {0}) (t : Token) → Plain (λ s. space_turn seen t 0 s)
-plain_space_turn seen t = plain_by (λ s. means s.world t) (λ m. give (if is_space m then On tt else Over t)) (λ m. plain_give _)
-
-pub space_is : (b : Bool) (t : Token) (s : State) → is_space (means s.world t) ≡ b → space_turn tt t 0 s ≡ Done (if b then On tt else Over t) s nothing
-space_is b t s e = ap (λ x. Done (if x then On tt else Over t) s nothing) e
-
-pub spaces_laws : LawfulLoop spaces_loop
-spaces_laws = record {
-  source = lawful_plain token_or_end plain_token_or_end;
-  lowers = λ n s. token_lowers s;
-  turn = λ seen t. lawful_plain (λ s. space_turn seen t 0 s) (plain_space_turn seen t);
-  end = λ seen. plain_fail _ _ _;
-}
-
-pub lawful_spaces : Lawful behind_spaces
-lawful_spaces = lawful_loop spaces_loop spaces_laws tt
-
-pub plain_behind_space : (t : Token) → Plain (behind_space t)
-plain_behind_space t = plain_by (λ s. means s.world t) (λ m. if is_space m then next_token else give t) (λ m. plain_if (is_space m) next_token (give t) plain_next (plain_give t))
-
-pub plain_behind_sign : Plain behind_sign
-plain_behind_sign = plain_then next_token behind_space plain_next plain_behind_space
-
-pub plain_behind_equals : (t : Token) → Plain (behind_equals t)
-plain_behind_equals t = plain_if (is_equals t) behind_sign (give t) plain_behind_sign (plain_give t)
-
-pub plain_meaning_now : (t : Token) → Plain (meaning_now t)
-plain_meaning_now t = plain_by (λ s. means s.world t) give plain_give
-
--- what is meant behind spaces
-abbrev pub meant_behind : Token → Reading Meaning
-meant_behind t s = chain (behind_equals t s) meaning_now
-
-pub plain_meant_behind : (t : Token) → Plain (meant_behind t)
-plain_meant_behind t = plain_then (behind_equals t) meaning_now (plain_behind_equals t) plain_meaning_now
-
-pub lawful_meant : Lawful meant
-lawful_meant = lawful_then behind_spaces (λ t n. meant_behind t) lawful_spaces (λ t. lawful_plain (meant_behind t) (plain_meant_behind t))
-
--- Definitions
-
-pub plain_open : (t : Token) → Plain (open_brace t)
-plain_open t =
-    plain_if (has_category BEGIN_GROUP t) (give tt) (if has_category END_GROUP t then fail MISSING_BRACE [] else fail BAD_PARAMETER []) (plain_give tt)
-    (plain_if (has_category END_GROUP t) (fail MISSING_BRACE []) (fail BAD_PARAMETER []) (plain_fail _ _ _) (plain_fail _ _ _))
-
-inside_if_unlimited : (b : Bool) (t : Token) (s : State) → IsUnlimited (inside_if b t s)
-inside_if_unlimited true t s = tt
-inside_if_unlimited false t s = tt
-
-inside_unlimited : (o : Option Taken) (s : State) → IsUnlimited (inside o s)
-inside_unlimited None s = tt
-inside_unlimited (Some t) s = inside_if_unlimited t.crossed t.token s
-
-tokens_unlimited : (k : ℕ) (s : State) → IsUnlimited (next_tokens k s)
-tokens_unlimited zero s = tt
-tokens_unlimited (suc k) s =
-    unlimited_chain (next_tokens k s) _ (tokens_unlimited k s) (λ list t.
-    unlimited_chain (inner_token t) (λ x. give (list ++ x ∷ [])) (unlimited_chain (take t) inside (plain_take.unlimited t) inside_unlimited) (λ x u. tt))
-
-verdict_unlimited : (v : Verdict (List Token)) (s : State) → IsUnlimited (decided v s)
-verdict_unlimited TooShort s = tt
-verdict_unlimited (Yields list) s = tt
-verdict_unlimited (Refuses code) s = tt
-
-absorb_unlimited : (s : State) → IsUnlimited (absorb s)
-absorb_unlimited s =
-    let k = least (room s + 1) (λ k. is_enough absorbed (next_tokens k s)) in
-    unlimited_chain (next_tokens k s) (λ list. decided (absorbed list)) (tokens_unlimited k s) (λ list t. verdict_unlimited (absorbed list) t)
-
-pub plain_absorb : Plain absorb
-plain_absorb = record {
-  decided = by_least_decided absorbed;
-  falls = λ s. leads_weaker (λ list t. Lower (length list + 1) s t) (λ list t. Lower 0 s t) (absorb s) (λ list t g. lower_then (length list + 1) 0 0 s t t g (lower_none t) (omega arith)) (absorb_leads s);
-  unlimited = absorb_unlimited;
-}
-
-pub plain_body_law : (body : List Token) → Plain (plain_body body)
-plain_body_law body = plain_if (list_any (has_category PARAMETER) body) (fail BAD_PARAMETER []) (give tt) (plain_fail _ _ _) (plain_give tt)
-
--- what follows a body, and what follows the brace before it
-abbrev pub body_taken : Bool → List Token → Reading Meaning
-body_taken long body s = chain (plain_body body s) (λ _. give (Macro (macro_of long body)))
-
-pub plain_body_taken : (long : Bool) (body : List Token) → Plain (body_taken long body)
-plain_body_taken long body = plain_then (plain_body body) (λ _. give (Macro (macro_of long body))) (plain_body_law body) (λ _. plain_give _)
-
-abbrev pub body_next : Bool → Reading Meaning
-body_next long s = chain (absorb s) (body_taken long)
-
-pub plain_body_next : (long : Bool) → Plain (body_next long)
-plain_body_next long = plain_then absorb (body_taken long) plain_absorb (plain_body_taken long)
-
-abbrev pub brace_taken : Bool → Token → Reading Meaning
-brace_taken long t s = chain (open_brace t s) (λ _. body_next long)
-
-pub plain_brace_taken : (long : Bool) (t : Token) → Plain (brace_taken long t)
-plain_brace_taken long t = plain_then (open_brace t) (λ _. body_next long) (plain_open t) (λ _. plain_body_next long)
-
-pub plain_defined : (long : Bool) → Plain (defined long)
-plain_defined long = plain_then next_token (brace_taken long) plain_next (plain_brace_taken long)
-
--- Sets
-
--- the after-tokens of groups stay where a value is set in all of them
-below_room : (k : Key) (v : Value) (gs : List (Open Key Value Token Kind)) → sum_by (λ (g : Open Key Value Token Kind). length g.after) (map (put_below key_eq k v) gs) ≡ sum_by (λ (g : Open Key Value Token Kind). length g.after) gs
-below_room k v [] = refl
-below_room k v (g ∷ gs) =
-    let again = below_room k v gs in
-    omega (arith, again, sum_by-cons (λ (o : Open Key Value Token Kind). length o.after) (put_below key_eq k v g) (map (put_below key_eq k v) gs), sum_by-cons (λ (o : Open Key Value Token Kind). length o.after) g gs)
-
-pub plain_assign : (global : Bool) (k : Key) (m : Meaning) → Plain (change (assign global k m))
-plain_assign global k m = plain_change (assign global k m) (λ s. by global s)
-  where
-    by : (global : Bool) (s : State) → Lower 0 s (assign global k m s)
-    by true s = same_room s (assign true k m s) refl refl refl (let e = below_room k (Means m) s.world.groups in omega arith)
-    by false s = same_room s (assign false k m s) refl refl refl (omega arith)
-
--- what follows a name, and what follows its meaning
-abbrev pub key_taken : Bool → ByDepth Meaning → Key → ByDepth (Unit {0})
-key_taken global meaning k n s = chain (meaning n s) (λ m. change (assign global k m))
-
-pub lawful_key_taken : (global : Bool) (meaning : ByDepth Meaning) → Lawful meaning → (k : Key) → Lawful (key_taken global meaning k)
-lawful_key_taken global meaning l k = lawful_then meaning (λ m n. change (assign global k m)) l (λ m. lawful_plain (change (assign global k m)) (plain_assign global k m))
-
-pub lawful_assigned : (global : Bool) (meaning : ByDepth Meaning) → Lawful meaning → Lawful (assigned global meaning)
-lawful_assigned global meaning l = lawful_then (λ n. next_key) (key_taken global meaning) (lawful_plain next_key plain_next_key) (lawful_key_taken global meaning l)
-
--- a token that is read after a group, and one that is read after an assignment
-keep_room : (t : Token) (gs : List (Open Key Value Token Kind)) → sum_by (λ (g : Open Key Value Token Kind). length g.after) (keep_in t gs) ≤ sum_by (λ (g : Open Key Value Token Kind). length g.after) gs + 1
-keep_room t [] = omega arith
-keep_room t (g ∷ gs) =
-    let kept : Open Key Value Token Kind = record { kind = g.kind; after = g.after ++ t ∷ []; below = g.below } in
-    omega (arith, sum_by-cons (λ (o : Open Key Value Token Kind). length o.after) kept gs, sum_by-cons (λ (o : Open Key Value Token Kind). length o.after) g gs, length-append g.after (t ∷ []))
-
-needed_one : (o : Option Token) (s t : State) → Lower (count o) s t → Leads (λ x u. Lower 1 s u) (needed o t)
-needed_one None s t low = tt
-needed_one (Some x) s t low = low
-
-next_lowers : (s : State) → Leads (λ t u. Lower 1 s u) (next_token s)
-next_lowers s = leads_chain (λ o t. Lower (count o) s t) (λ t u. Lower 1 s u) (token_or_end s) needed (token_lowers s) (λ o t low. needed_one o s t low)
-
-kept_lower : (s t u : State) → Lower 1 s t → u.limit ≡ t.limit → u.nesting ≡ t.nesting → u.begun ≡ t.begun → room u ≤ room t + 1 → Lower 0 s u
-kept_lower s t u low limit nesting begun more = record {
-  limit = limit ∙ low.limit;
-  nesting = nesting ∙ low.nesting;
-  begun = let b = low.begun in omega arith;
-  size = λ e. let l = low.size (sym begun ∙ e) in omega arith;
-  within = λ w. let l = low.within w in omega arith;
-}
-
--- a token that is taken, and then kept somewhere
-pub plain_with_token : (f : Token → State → State) → ((t : Token) (s : State) → (f t s).limit ≡ s.limit) → ((t : Token) (s : State) → (f t s).nesting ≡ s.nesting) → ((t : Token) (s : State) → (f t s).begun ≡ s.begun)
-    → ((t : Token) (s : State) → room (f t s) ≤ room s + 1) → Plain (with_token f)
-plain_with_token f limit nesting begun more = record {
-  decided = λ s. chain_decided (λ t u. Unit {0}) (next_token s) (λ t. change (f t)) (plain_next.decided s) (any (next_token s)) (λ t u _. tt);
-  unlimited = λ s. unlimited_chain (next_token s) (λ t. change (f t)) (plain_next.unlimited s) (λ t u. tt);
-  falls = λ s. leads_chain (λ t u. Lower 1 s u) (λ v u. Lower 0 s u) (next_token s) (λ t. change (f t)) (next_lowers s)
-      (λ t u low. kept_lower s u (f t u) low (limit t u) (nesting t u) (begun t u) (more t u));
-}
-
-plain_after_group : Plain (with_token read_after)
-plain_after_group = plain_with_token read_after (λ t s. refl) (λ t s. refl) (λ t s. refl) (λ t s. let k = keep_room t s.world.groups in omega arith)
-
-plain_after_assignment : Plain (with_token keep_token)
-plain_after_assignment = plain_with_token keep_token (λ t s. refl) (λ t s. refl) (λ t s. refl) (λ t s. omega arith)
-
--- Groups
-
-begin_room : (kind : Kind) (s : State) → room (record s { world = begin_group kind s.world }) ≡ room s
-begin_room kind s = let e = sum_by-cons (λ (g : Open Key Value Token Kind). length g.after) (record { kind = kind; after = []; below = s.world.top }) s.world.groups in omega (arith, e)
-
-pub plain_begin : (kind : Kind) → Plain (begin_kind kind)
-plain_begin kind = plain_change (λ s. record s { world = begin_group kind s.world }) (λ s. same_room s (record s { world = begin_group kind s.world }) refl refl refl (let e = begin_room kind s in omega arith))
-
-end_room : (s : State) (g : Open Key Value Token Kind) (gs : List (Open Key Value Token Kind)) → s.world.groups ≡ g ∷ gs
-    → room (put g.after (record s { world = record { top = g.below; groups = gs } })) ≡ room s
-end_room s g gs e =
-    let all = ap (sum_by (λ (o : Open Key Value Token Kind). length o.after)) e in
-    omega (arith, all, sum_by-cons (λ (o : Open Key Value Token Kind). length o.after) g gs, size_put g.after s.rest)
-
-by_kind : (s : State) (g : Open Key Value Token Kind) (gs : List (Open Key Value Token Kind)) (b : Bool) → s.world.groups ≡ g ∷ gs
-    → IsDecided (ended (if b then (record { top = g.below; groups = gs }, Ok g.after) else (s.world, Err (WrongGroup g.kind))) s)
-    × Leads (λ v t. Lower 0 s t) (ended (if b then (record { top = g.below; groups = gs }, Ok g.after) else (s.world, Err (WrongGroup g.kind))) s)
-    × IsUnlimited (ended (if b then (record { top = g.below; groups = gs }, Ok g.after) else (s.world, Err (WrongGroup g.kind))) s)
-by_kind s g gs true e = (tt, same_room s (put g.after (record s { world = record { top = g.below; groups = gs } })) refl refl refl (let r = end_room s g gs e in omega arith), tt)
-by_kind s g gs false e = (tt, tt, tt)
-
-by_groups : (kind : Kind) (s : State) (gs : List (Open Key Value Token Kind)) → s.world.groups ≡ gs
-    → IsDecided (ended (end_in kind_eq kind s.world gs) s) × Leads (λ v t. Lower 0 s t) (ended (end_in kind_eq kind s.world gs) s) × IsUnlimited (ended (end_in kind_eq kind s.world gs) s)
-by_groups kind s [] e = (tt, tt, tt)
-by_groups kind s (g ∷ gs) e = by_kind s g gs (kind_eq g.kind kind) e
-
-pub plain_end : (kind : Kind) → Plain (end_kind kind)
-plain_end kind = record { decided = λ s. (by_groups kind s s.world.groups refl).0; falls = λ s. (by_groups kind s s.world.groups refl).1; unlimited = λ s. (by_groups kind s s.world.groups refl).2 }
+pub use Rattle.texml_assign.proofs.Parts.{plain_after_assignment, body_taken, head_taken, kept_lower, key_taken, lawful_assigned, lawful_key_taken, lawful_meant, lawful_spaces, meant_behind, plain_absorb, plain_after_group, plain_assign, plain_begin, plain_behind_equals, plain_behind_sign, plain_behind_space, plain_body_said, plain_by_least, plain_defined, plain_end, plain_head_taken, plain_key_of, plain_look_ahead, plain_meaning_now, plain_meant_behind, plain_needed, plain_needed_body, plain_next, plain_next_body, plain_next_key, plain_parameter_text, plain_space_turn, plain_take, plain_token_or_end, plain_with_token, same_room, space_is, spaces_laws, text_taken, token_takes}
+use Rattle.texml_assign.proofs.NewCommands.{lawful_new_command}
 
 -- Rows
 
@@ -310,6 +70,7 @@ lawful_row p BeginGroup = lawful_plain (begin_kind Begin) (plain_begin Begin)
 lawful_row p EndGroup = lawful_plain (end_kind Begin) (plain_end Begin)
 lawful_row p AfterGroup = lawful_plain (with_token read_after) plain_after_group
 lawful_row p AfterAssignment = lawful_plain (with_token keep_token) plain_after_assignment
+lawful_row p (NewCommand naming) = lawful_new_command naming
 
 pub lawful_perform : (p : Prefixes) (c : CommandWord) → Lawful (perform p c)
 lawful_perform p c = lawful_then (row p c) (λ _ n. behind c) (lawful_row p c) (λ _. lawful_plain (behind c) (plain_behind c))

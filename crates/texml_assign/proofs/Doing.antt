@@ -1,7 +1,6 @@
 -- Calls that go together.
-use Rattle.std.proofs.Common.{◌≡◌, ◌≤◌, ℕ, [], Option, None, Some, Result, Ok, Err, refl, sym, ap, ◌∙◌, subst, arith}
+use Rattle.std.proofs.Common.{◌≡◌, ℕ, [], Option, None, Some, Result, Ok, Err, refl, sym, ap, ◌∙◌, subst, arith}
 use Rattle.std.specs.Result.{OnOk}
-use Rattle.texml_base.specs.Rising.{Rose}
 use Rattle.texml_token.proofs.Table.{extends_refl, extends_trans}
 use Rattle.texml_token.specs.Token.{Token}
 use Rattle.texml_watch.specs.declared.record.Record.{Record}

@@ -1,6 +1,10 @@
 pub mod Readings
 pub mod Looping
 pub mod Doing
+pub mod Parts
+pub mod NewCommands
 pub mod Commands
 pub mod Worlds
-pub mod Searching
+pub mod ParameterTexts
+pub mod Macros
+mod Rows

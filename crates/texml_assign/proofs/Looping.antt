@@ -1,12 +1,12 @@
 -- A loop over tokens is lawful where its parts are, and each token leaves less to be read.
-use Rattle.std.proofs.Common.{◌≡◌, ◌+◌, ◌-◌, ◌<◌, ◌≤◌, ℕ, zero, suc, Option, Some, None, Result, Ok, Err, refl, sym, ap, ◌∙◌, subst, arith, inl, inr, eq-or-lt_of_le}
+use Rattle.std.proofs.Common.{◌-◌, ◌<◌, ◌≤◌, ℕ, zero, suc, Option, Some, None, Result, Ok, Err, refl, sym, arith, inl, inr, eq-or-lt_of_le}
 use Rattle.texml_token.specs.Token.{Token}
 use Rattle.texml_watch.specs.declared.record.Record.{Record}
 use Rattle.texml_expand.specs.declared.stop.Stop.{Stop}
 use Rattle.texml_expand.specs.declared.stop.Stop.TheVariants as stop
-use Rattle.texml_expand.specs.State.{State, room, Gains, Answer, Done, Ended, Unfinished, Reading, chain, IsDecided, give}
+use Rattle.texml_expand.specs.State.{State, room, Reading, give}
 use Rattle.texml_expand.specs.Contract.{Lower}
-use Rattle.texml_expand.specs.Hearing.{Meets, Follows}
+use Rattle.texml_expand.specs.Hearing.{Follows}
 use Rattle.texml_expand.proofs.Order.{IsWithin, Grows, grows_refl, chain_grows, Mono}
 use Rattle.texml_expand.proofs.Falls.{Leads, leads_at, lower_none, lower_then, count}
 use Rattle.texml_assign.specs.Loop.{ByDepth, Next, On, Over, Loop, looped, turned, loops}

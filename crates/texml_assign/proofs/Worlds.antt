@@ -112,6 +112,12 @@ end_stops h mid new scope kind writes s f sound given e is fault =
     (ended_is h scope kind (Err f) sound given e ∙ ap (λ c. Ended (Tex (fault_here c [] h.place)) nothing) (code_same h.names f))
     (subst (λ p. IsFaultAt (end_code f) [] p s) (ap (λ (m : Held). m.place) is) fault)
 
+-- a token comes next
+pub back_state : (h new : Held) (t : TokenCode) (r : Result (Unit {0}) Stop) (P : Type 0) → MatchResult r (λ _. state_of new ≡ back (token_at h.names t) false (state_of h)) (λ s. (s ≡ stop.NoMemory) × P)
+    → Silent (change (back (token_at h.names t) false) (state_of h)) r (state_of new)
+back_state h new t (Ok v) P m = ap (λ s. Done tt s nothing) (sym m)
+back_state h new t (Err s) P m = subst (λ x. Silent (change (back (token_at h.names t) false) (state_of h)) (Err x) (state_of new)) (sym m.0) tt
+
 -- the kept token comes next
 pub kept_none : (h : Held) → h.kept ≡ None → change put_kept (state_of h) ≡ Done tt (state_of h) nothing
 kept_none h e = ap (λ o. Done tt (put_kept_of (option_map (token_at h.names) o) (state_of h)) nothing) e

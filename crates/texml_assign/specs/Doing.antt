@@ -1,7 +1,6 @@
 -- What a call that reads from an engine does, as the private contracts of this crate say it.
-use Rattle.std.specs.Prelude.{◌≡◌, ◌≤◌, Result}
+use Rattle.std.specs.Prelude.{Result}
 use Rattle.std.specs.Result.{OnOk}
-use Rattle.texml_token.specs.Numbers.{Extends}
 use Rattle.texml_watch.specs.declared.record.Record.{Record}
 use Rattle.texml_expand.specs.declared.stop.Stop.{Stop}
 use Rattle.texml_expand.specs.Contract.{Outside, Stops}

@@ -1,19 +1,13 @@
 -- Commands that change the world: a row for each (The TeXbook, chapters 20 and 24).
-use Rattle.std.specs.Prelude.{ℕ, Bool, true, if◌then◌else◌, List, [], Option, None, Some}
-use Rattle.std.specs.List.{list_any}
-use Rattle.texml_token.specs.Token.{Token, has_category}
-use Rattle.texml_token.specs.declared.category.TheConstants.{BEGIN_GROUP, END_GROUP, PARAMETER}
-use Rattle.texml_token.specs.declared.fault_code.TheConstants.{FILE_ENDED, BAD_PARAMETER, BAD_PREFIX, MISSING_BRACE}
-use Rattle.texml_scope.specs.Texts.{Meaning, plain_macro}
-use Rattle.texml_scope.specs.Values.{Macro as MacroBy}
-use Rattle.texml_scope.specs.declared.values.MeaningOf.TheVariants.{Macro}
+use Rattle.std.specs.Prelude.{ℕ, true, if◌then◌else◌, [], Option, None, Some}
+use Rattle.texml_token.specs.Token.{Token}
+use Rattle.texml_token.specs.declared.fault_code.TheConstants.{FILE_ENDED, BAD_PREFIX}
 use Rattle.texml_scope.specs.declared.values.KindOf.TheVariants.{Begin}
 use Rattle.texml_expand.specs.State.{State, Answer, Reading, ◌>>=◌, ◌>>◌, give, fail, change}
 use Rattle.texml_expand.specs.Expand.{level}
-use Rattle.texml_expand.specs.Absorb.{absorb}
 use Rattle.texml_assign.specs.declared.table.Prefix.{Prefix as PrefixWord}
 use Rattle.texml_assign.specs.declared.table.Command.{Command as CommandWord}
-use Rattle.texml_assign.specs.declared.table.Command.TheVariants.{Relax, Def, Gdef, Let, BeginGroup, EndGroup, AfterGroup, AfterAssignment}
+use Rattle.texml_assign.specs.declared.table.Command.TheVariants.{Relax, Def, Gdef, Let, BeginGroup, EndGroup, AfterGroup, AfterAssignment, NewCommand}
 use Rattle.texml_assign.specs.declared.table.Executable.{Executable}
 use Rattle.texml_assign.specs.declared.table.Executable.TheVariants.{Prefix, Command}
 use Rattle.texml_assign.specs.declared.table.Prefixes.{Prefixes}
@@ -22,47 +16,10 @@ use Rattle.texml_assign.specs.declared.executing.Executed.TheVariants.{Yes, NotM
 use Rattle.texml_assign.specs.Table.{executable_of, is_assignment, no_prefixes, with_prefix, may_follow}
 use Rattle.texml_assign.specs.Loop.{ByDepth, Next, On, Over, Loop, loops}
 use Rattle.texml_assign.specs.Meaning.{means}
-use Rattle.texml_assign.specs.Operands.{next_token, next_key, is_space, meant}
-use Rattle.texml_assign.specs.Sets.{assign, begin_kind, end_kind, read_after, keep_token, put_kept}
-
--- Definitions
-
--- the brace before a body. Parameters aren't built yet, so another token is a bad one
-abbrev pub open_brace : Token → Reading (Unit {0})
-open_brace t =
-    if has_category BEGIN_GROUP t then give tt
-    else if has_category END_GROUP t then fail MISSING_BRACE []
-    else fail BAD_PARAMETER []
-
--- nor may a body have parameter characters yet
-abbrev pub plain_body : List Token → Reading (Unit {0})
-plain_body body = if list_any (has_category PARAMETER) body then fail BAD_PARAMETER [] else give tt
-
--- a macro without parameters, long or not
-abbrev pub macro_of : {T : Type 0} → Bool → List T → MacroBy T
-macro_of long body = record (plain_macro body) { long = long }
-
--- the macro that a definition gives: a body in braces
-abbrev pub defined : Bool → Reading Meaning
-defined long = do
-  b ← next_token
-  open_brace b
-  body ← absorb
-  plain_body body
-  give (Macro (macro_of long body))
-
--- a name, and the meaning that it has from now on
-abbrev pub assigned : Bool → ByDepth Meaning → ByDepth (Unit {0})
-assigned global meaning n = do
-  k ← next_key
-  m ← meaning n
-  change (assign global k m)
-
--- a token, which changes something
-abbrev pub with_token : (Token → State → State) → Reading (Unit {0})
-with_token f = do
-  t ← next_token
-  change (f t)
+use Rattle.texml_assign.specs.Operands.{is_space, meant, with_token}
+use Rattle.texml_assign.specs.Define.{defined, assigned}
+use Rattle.texml_assign.specs.NewCommand.{new_command}
+use Rattle.texml_assign.specs.Sets.{begin_kind, end_kind, read_after, keep_token, put_kept}
 
 -- Rows
 
@@ -76,6 +33,7 @@ row p BeginGroup = λ n. begin_kind Begin
 row p EndGroup = λ n. end_kind Begin
 row p AfterGroup = λ n. with_token read_after
 row p AfterAssignment = λ n. with_token keep_token
+row p (NewCommand naming) = new_command naming
 
 -- behind an assignment comes the kept token
 abbrev pub behind : CommandWord → Reading (Unit {0})

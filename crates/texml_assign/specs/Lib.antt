@@ -3,8 +3,13 @@ pub mod Loop
 pub mod Meaning
 pub mod Operands
 pub mod Sets
+pub mod Parameters
+pub mod TextFeeding
+pub mod Define
+pub mod NewCommand
 pub mod Execute
 pub mod Advance
 pub mod Doing
 pub mod Setting
 pub mod Behind
+pub mod Allowing

@@ -7,8 +7,8 @@ use Rattle.texml_scope.specs.Texts.{Key, Meaning}
 use Rattle.texml_scope.specs.declared.values.KeyOf.TheVariants.{Name, Active as ActiveKey}
 use Rattle.texml_scope.specs.declared.values.MeaningOf.TheVariants.{Char as CharMeaning}
 use Rattle.texml_expand.specs.Next.{Taken}
-use Rattle.texml_expand.specs.State.{Reading, ◌>>=◌, give, fail}
-use Rattle.texml_expand.specs.Expand.{take}
+use Rattle.texml_expand.specs.State.{State, Reading, ◌>>=◌, give, fail, change}
+use Rattle.texml_expand.specs.Expand.{take, back}
 use Rattle.texml_assign.specs.Loop.{ByDepth, Next, On, Over, Loop, loops}
 use Rattle.texml_assign.specs.Meaning.{means}
 
@@ -90,3 +90,13 @@ meant n = do
   t ← behind_spaces n
   u ← behind_equals t
   meaning_now u
+
+-- a token, which changes something
+abbrev pub with_token : (Token → State → State) → Reading (Unit {0})
+with_token f = do
+  t ← next_token
+  change (f t)
+
+-- the next token is looked at, so that the end of a text before it is passed over
+abbrev pub look_ahead : Reading (Unit {0})
+look_ahead = with_token (λ t. back t false)

@@ -2,11 +2,12 @@
 use Rattle.std.specs.Prelude.{ℕ, ◌==◌, ◌||◌, Bool, true, false, if◌then◌else◌, Option, None, Some}
 use Rattle.texml_scope.specs.Texts.{Meaning}
 use Rattle.texml_scope.specs.declared.values.MeaningOf.TheVariants.{Builtin}
-use Rattle.texml_scope.specs.declared.builtins.TheConstants.{RELAX, DEF, GDEF, LET, LONG, OUTER, GLOBAL, BEGINGROUP, ENDGROUP, AFTERGROUP, AFTERASSIGNMENT}
+use Rattle.texml_scope.specs.declared.builtins.TheConstants.{RELAX, DEF, GDEF, LET, LONG, OUTER, GLOBAL, BEGINGROUP, ENDGROUP, AFTERGROUP, AFTERASSIGNMENT, NEWCOMMAND, RENEWCOMMAND, PROVIDECOMMAND}
+use Rattle.texml_assign.specs.declared.table.Naming.TheVariants.{New, Renew, Provide}
 use Rattle.texml_assign.specs.declared.table.Prefix.{Prefix as PrefixWord}
 use Rattle.texml_assign.specs.declared.table.Prefix.TheVariants.{Long, Outer, Global}
 use Rattle.texml_assign.specs.declared.table.Command.{Command as CommandWord}
-use Rattle.texml_assign.specs.declared.table.Command.TheVariants.{Relax, Def, Gdef, Let, BeginGroup, EndGroup, AfterGroup, AfterAssignment}
+use Rattle.texml_assign.specs.declared.table.Command.TheVariants.{Relax, Def, Gdef, Let, BeginGroup, EndGroup, AfterGroup, AfterAssignment, NewCommand}
 use Rattle.texml_assign.specs.declared.table.Executable.{Executable}
 use Rattle.texml_assign.specs.declared.table.Executable.TheVariants.{Prefix, Command}
 use Rattle.texml_assign.specs.declared.table.Prefixes.{Prefixes}
@@ -25,6 +26,9 @@ executable_at place =
     else if place == ENDGROUP then Some (Command EndGroup)
     else if place == AFTERGROUP then Some (Command AfterGroup)
     else if place == AFTERASSIGNMENT then Some (Command AfterAssignment)
+    else if place == NEWCOMMAND then Some (Command (NewCommand New))
+    else if place == RENEWCOMMAND then Some (Command (NewCommand Renew))
+    else if place == PROVIDECOMMAND then Some (Command (NewCommand Provide))
     else None
 
 abbrev pub executable_of : Meaning → Option Executable

@@ -1,25 +1,25 @@
 //! Definitions, and names that are let to mean something.
 
 ghost use Rattle.std.specs.Prelude.{◌≡◌, length, None, IfOk, OnOk};
-ghost use Rattle.std.specs.List.{list_any};
-ghost use Rattle.texml_token.specs.declared.category.TheConstants.{PARAMETER};
-ghost use Rattle.texml_token.specs.Numbers.{Table, token_at, tokens_at, TokenWithin};
+ghost use Rattle.texml_token.specs.Numbers.{Table, token_at, tokens_at, TokensWithin, BodyWithin};
 ghost use Rattle.texml_scope.specs.Numbers.{meaning_at, MeaningWithin};
 ghost use Rattle.texml_expand.specs.Contract.{Silent, outside, stop_after};
 ghost use Rattle.texml_expand.specs.Hearing.{hears, hears_part};
 ghost use Rattle.texml_expand.specs.Held.{state_of, Sound, Kept, ok_at};
-ghost use Rattle.texml_token.specs.Token.{has_category};
 ghost use Rattle.texml_assign.specs.Doing.{Does};
 ghost use Rattle.texml_assign.specs.Operands.{meant as spec_meant};
-ghost use Rattle.texml_assign.specs.Execute.{open_brace as spec_open_brace, macro_of as spec_macro_of, defined as spec_defined, assigned};
+ghost use Rattle.texml_assign.specs.Parameters.{head_at};
+ghost use Rattle.texml_assign.specs.TextFeeding.{HeadWithin};
+ghost use Rattle.texml_assign.specs.Define.{parameter_text as spec_parameter_text, body_said as spec_body_said, next_body as spec_next_body, macro_of as spec_macro_of, defined as spec_defined, assigned};
 
-use crate::operands::{meant, next_key, next_token};
+use crate::operands::{look_ahead, meant, next_key};
+use crate::parameters::{Head, ParameterText, body_of};
 use crate::sets::assign;
-use std::alloc::Global;
+use std::alloc::{AllocError, Global};
 use texml_base::Files;
 use texml_expand::{Engine, Stop};
-use texml_scope::{Macro, Meaning, plain_macro};
-use texml_token::{Token, Tokens, category, fault_code};
+use texml_scope::{Macro, Meaning};
+use texml_token::{Params, Tokens, fault_code};
 use texml_watch::Teller;
 
 /// Reads a definition and makes it: a name, and the macro that it means from now on.
@@ -68,7 +68,7 @@ pub fn let_to<F: Files, T: Teller>(
     assign(engine, global, key, meaning)
 }
 
-// The macro that a definition gives: a body in braces.
+// The macro that a definition gives: a parameter text, and a body in braces.
 fn defined<F: Files, T: Teller>(
     alloc: Global,
     engine: &mut Engine,
@@ -83,51 +83,91 @@ fn defined<F: Files, T: Teller>(
     ensures within { IfOk result (MeaningWithin (length engine.new.names)) }
     ensures files { files.new ≡ files.old }
 {
-    let brace = next_token(engine, files, tell)?;
-    open_brace(engine, brace)?;
-    let body = engine.absorb(files, tell)?;
-    if has_parameters(&body) {
-        return Err(engine.bare_fault(fault_code::BAD_PARAMETER));
+    let head = parameter_text(alloc, engine, files, tell)?;
+    let body = next_body(alloc, engine, files, tell, head.slots)?;
+    match macro_of(long, head, body) {
+        Ok(made) => Ok(Meaning::Macro(made)),
+        Err(_) => Err(engine.no_memory()),
     }
-    Ok(Meaning::Macro(macro_of(alloc, long, body)))
 }
 
-// Refuses another token than the brace before a body.
-fn open_brace(engine: &mut Engine, token: Token) -> Result<(), Stop>
+// The parameter text that comes next, with the brace behind it.
+fn parameter_text<F: Files, T: Teller>(
+    alloc: Global,
+    engine: &mut Engine,
+    files: &mut F,
+    tell: &mut T,
+) -> Result<Head, Stop>
     requires running { engine.old.stop ≡ None }
     requires sound { Sound engine.old }
-    requires token { TokenWithin (length engine.old.names) token }
-    ensures opens { Silent (spec_open_brace (token_at engine.old.names token) (state_of engine.old)) result (state_of engine.new) }
+    ensures does { Does (hears T.wanting T.heard) (hears_part T.wanting T.part) (λ n. spec_parameter_text) (ok_at (head_at engine.new.names) result) engine.old engine.new
+        (outside (F.faults files.old) (T.faults tell.old)) (outside (F.faults files.new) (T.faults tell.new)) tell.old tell.new }
+    ensures within { IfOk result (HeadWithin (length engine.new.names) 0) }
+    ensures files { files.new ≡ files.old }
+{
+    look_ahead(engine, files, tell)?;
+    let mut text = ParameterText::new(alloc);
+    engine.read_by(files, tell, &mut text)
+}
+
+// The body that comes next of a macro with so many parameters, with the brace behind it.
+fn next_body<F: Files, T: Teller>(
+    alloc: Global,
+    engine: &mut Engine,
+    files: &mut F,
+    tell: &mut T,
+    slots: u8,
+) -> Result<Tokens, Stop>
+    requires running { engine.old.stop ≡ None }
+    requires sound { Sound engine.old }
+    ensures does { Does (hears T.wanting T.heard) (hears_part T.wanting T.part) (λ n. spec_next_body slots) (ok_at (tokens_at engine.new.names) result) engine.old engine.new
+        (outside (F.faults files.old) (T.faults tell.old)) (outside (F.faults files.new) (T.faults tell.new)) tell.old tell.new }
+    ensures within { IfOk result (BodyWithin (length engine.new.names) slots) }
+    ensures files { files.new ≡ files.old }
+{
+    let list = engine.absorb(files, tell)?;
+    body_said(alloc, engine, slots, &list)
+}
+
+/// The body that tokens are for a macro with so many parameters, which must be one.
+///
+/// # Errors
+///
+/// `Tex` with fault 14 where something else stands behind a parameter character than another one or the number of a
+/// parameter, and `NoMemory` where memory was refused.
+pub fn body_said(
+    alloc: Global,
+    engine: &mut Engine,
+    slots: u8,
+    list: &Tokens,
+) -> Result<Tokens, Stop>
+    requires running { engine.old.stop ≡ None }
+    requires sound { Sound engine.old }
+    requires list { TokensWithin (length engine.old.names) list.now }
+    ensures needs { Silent (spec_body_said slots (tokens_at engine.old.names list.now) (state_of engine.old)) (ok_at (tokens_at engine.new.names) result) (state_of engine.new) }
     ensures kept { engine.new.stop ≡ stop_after result }
     ensures keeps { OnOk result (Kept engine.old engine.new) }
     ensures is { engine.new ≡ record engine.old { stop = engine.new.stop } }
+    ensures within { IfOk result (BodyWithin (length engine.new.names) slots) }
 {
-    if token.has_category(category::BEGIN_GROUP) {
-        return Ok(());
+    match body_of(alloc, slots, list) {
+        Ok(Some(body)) => Ok(body),
+        Ok(None) => Err(engine.bare_fault(fault_code::BAD_PARAMETER)),
+        Err(_) => Err(engine.no_memory()),
     }
-    if token.has_category(category::END_GROUP) {
-        return Err(engine.bare_fault(fault_code::MISSING_BRACE));
-    }
-    Err(engine.bare_fault(fault_code::BAD_PARAMETER))
 }
 
-// Whether a body has parameter characters.
-fn has_parameters(body: &Tokens) -> bool
-    ensures { (texts : Table) → result ≡ list_any (has_category PARAMETER) (tokens_at texts body.now) }
+// A macro, long or not. A brace that ends its parameter text stands at the end of its body too.
+fn macro_of(long: bool, head: Head, body: Tokens) -> Result<Macro, AllocError>
+    ensures { IfOk result (λ made. made ≡ spec_macro_of long head body) }
 {
-    for token in body.as_slice() {
-        if token.has_category(category::PARAMETER) {
-            return true;
-        }
+    let mut body = body;
+    if let Some(brace) = head.brace {
+        body.push(brace)?;
     }
-    false
-}
-
-// A macro without parameters, long or not.
-fn macro_of(alloc: Global, long: bool, body: Tokens) -> Macro
-    ensures { result ≡ spec_macro_of long body }
-{
-    let mut made = plain_macro(alloc, body);
-    made.long = long;
-    made
+    let params = Params {
+        default: None,
+        pieces: head.pieces,
+    };
+    Ok(Macro { long, params, body })
 }

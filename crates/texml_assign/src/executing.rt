@@ -1,21 +1,23 @@
 //! Executing: prefixes, and a row for each command.
 
-ghost use Rattle.std.specs.Prelude.{◌≡◌, length, None, IfOk, OnOk};
+ghost use Rattle.std.specs.Prelude.{◌≡◌, length, None, IfOk, IfSome, OnOk};
 ghost use Rattle.texml_token.specs.Numbers.{Table, token_at, TokenWithin};
 ghost use Rattle.texml_scope.specs.Numbers.{meaning_at};
 ghost use Rattle.texml_expand.specs.State.{State};
-ghost use Rattle.texml_expand.specs.Contract.{Stops, Lower, outside};
+ghost use Rattle.texml_expand.specs.Contract.{AnswersKept, Stops, Lower, outside};
 ghost use Rattle.texml_expand.specs.Hearing.{hears, hears_part, Follows};
 ghost use Rattle.texml_expand.specs.Held.{state_of, Sound, Kept, IsAtLimit};
 ghost use Rattle.texml_assign.specs.Advance.{Advances};
 ghost use Rattle.texml_assign.specs.Doing.{Does};
 ghost use Rattle.texml_assign.specs.Table.{executable_of as spec_executable_of};
+ghost use Rattle.texml_assign.specs.Operands.{with_token};
 ghost use Rattle.texml_assign.specs.Sets.{read_after as spec_read_after, keep_token};
-ghost use Rattle.texml_assign.specs.Execute.{with_token, row as spec_row, perform as spec_perform, followed, prefix_word, prefix_turn, prefixed as spec_prefixed, execute_prefixed as spec_execute_prefixed, execute_word as spec_execute_word, execute as spec_execute, executes};
+ghost use Rattle.texml_assign.specs.Execute.{row as spec_row, perform as spec_perform, followed, prefix_word, prefix_turn, prefixed as spec_prefixed, execute_prefixed as spec_execute_prefixed, execute_word as spec_execute_word, execute as spec_execute, executes};
 ghost use Rattle.texml_assign.specs.Behind.{turn_of};
 
 use crate::define::{define, let_to};
 use crate::meaning::meaning_of;
+use crate::new_command::new_command;
 use crate::operands::{is_space, next_token};
 use crate::sets::{begin_group, end_group, put_kept, read_after};
 use crate::table::{
@@ -54,7 +56,7 @@ enum Behind {
 /// something else than an assignment, fault 18 where a name is missing, faults 14 and 22 in a definition, faults 16 and 17
 /// where no group of the kind can end, and those of `Engine::fetch` behind a prefix. `Limit` where one expansion too many
 /// would begin there. `TellFailed` only where the count of faults of `tell` rose in this call, `NoMemory` where memory was
-/// refused; the records told until then are the first of those that would be told.
+/// refused; the records told until then are the first of those that would be told. And the stop that is kept.
 pub fn execute<F: Files, T: Teller>(
     alloc: Global,
     engine: &mut Engine,
@@ -62,18 +64,19 @@ pub fn execute<F: Files, T: Teller>(
     tell: &mut T,
     token: Token,
 ) -> Result<Executed, Stop>
-    requires running { engine.old.stop ≡ None }
-    requires sound { Sound engine.old }
-    requires token { TokenWithin (length engine.old.names) token }
-    ensures follows { Follows (hears T.wanting T.heard) (hears_part T.wanting T.part) (executes (token_at engine.old.names token) (state_of engine.old)) result (state_of engine.new) tell.old tell.new }
-    ensures stops { Stops result (outside (F.faults files.old) (T.faults tell.old)) (outside (F.faults files.new) (T.faults tell.new)) engine.new.stop }
-    ensures lower { OnOk result (Lower 0 (state_of engine.old) (state_of engine.new)) }
-    ensures keeps { OnOk result (Kept engine.old engine.new) }
+    requires sound { engine.old.stop ≡ None → Sound engine.old }
+    requires token { engine.old.stop ≡ None → TokenWithin (length engine.old.names) token }
+    ensures follows { engine.old.stop ≡ None → Follows (hears T.wanting T.heard) (hears_part T.wanting T.part) (executes (token_at engine.old.names token) (state_of engine.old)) result (state_of engine.new) tell.old tell.new }
+    ensures stops { engine.old.stop ≡ None → Stops result (outside (F.faults files.old) (T.faults tell.old)) (outside (F.faults files.new) (T.faults tell.new)) engine.new.stop }
+    ensures lower { engine.old.stop ≡ None → OnOk result (Lower 0 (state_of engine.old) (state_of engine.new)) }
+    ensures keeps { engine.old.stop ≡ None → OnOk result (Kept engine.old engine.new) }
     ensures advances { Advances engine.old engine.new }
-    ensures limit { IsAtLimit result engine.new }
+    ensures limit { engine.old.stop ≡ None → IsAtLimit result engine.new }
     ensures same { IfOk result (λ done. done ≡ Executed.NotMine → (engine.new ≡ engine.old) × (tell.new ≡ tell.old)) }
+    ensures stays { IfSome engine.old.stop (λ stop. AnswersKept stop result × (engine.new ≡ engine.old) × (tell.new ≡ tell.old)) }
     ensures files { files.new ≡ files.old }
 {
+    engine.running()?;
     execute_meaning(alloc, engine, files, tell, token)
 }
 
@@ -226,6 +229,10 @@ fn row<F: Files, T: Teller>(
         }
         Command::AfterAssignment => {
             after_assignment(engine, files, tell)?;
+            Ok(())
+        }
+        Command::NewCommand(naming) => {
+            new_command(alloc, engine, files, tell, naming)?;
             Ok(())
         }
     }

@@ -10,7 +10,9 @@
 mod define;
 mod executing;
 mod meaning;
+mod new_command;
 mod operands;
+mod parameters;
 mod sets;
 mod table;
 

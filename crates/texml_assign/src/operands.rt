@@ -10,9 +10,10 @@ ghost use Rattle.texml_expand.specs.Hearing.{hears, hears_part};
 ghost use Rattle.texml_expand.specs.Held.{state_of, Sound, Kept, ok_at};
 ghost use Rattle.texml_assign.specs.Doing.{Does};
 ghost use Rattle.texml_assign.specs.Meaning.{means};
-ghost use Rattle.texml_assign.specs.Operands.{token_or_end as spec_token_or_end, next_token as spec_next_token, key_of as spec_key_of, next_key as spec_next_key, is_space as spec_is_space, behind_spaces as spec_behind_spaces, is_equals as spec_is_equals, behind_space as spec_behind_space, behind_equals as spec_behind_equals, meant as spec_meant};
+ghost use Rattle.texml_assign.specs.Operands.{token_or_end as spec_token_or_end, next_token as spec_next_token, key_of as spec_key_of, next_key as spec_next_key, is_space as spec_is_space, behind_spaces as spec_behind_spaces, is_equals as spec_is_equals, behind_space as spec_behind_space, behind_equals as spec_behind_equals, meant as spec_meant, look_ahead as spec_look_ahead};
 
 use crate::meaning::meaning_of;
+use crate::sets::put_back;
 use std::alloc::AllocError;
 use texml_base::Files;
 use texml_expand::{Engine, Stop};
@@ -71,6 +72,26 @@ pub fn next_token<F: Files, T: Teller>(
     }
 }
 
+/// Looks at the next token, so that the end of a text before it is passed over.
+///
+/// # Errors
+///
+/// Those of `next_token`.
+pub fn look_ahead<F: Files, T: Teller>(
+    engine: &mut Engine,
+    files: &mut F,
+    tell: &mut T,
+) -> Result<(), Stop>
+    requires running { engine.old.stop ≡ None }
+    requires sound { Sound engine.old }
+    ensures does { Does (hears T.wanting T.heard) (hears_part T.wanting T.part) (λ n. spec_look_ahead) result engine.old engine.new
+        (outside (F.faults files.old) (T.faults tell.old)) (outside (F.faults files.new) (T.faults tell.new)) tell.old tell.new }
+    ensures files { files.new ≡ files.old }
+{
+    let token = next_token(engine, files, tell)?;
+    put_back(engine, token)
+}
+
 /// The name or active character that comes next.
 ///
 /// # Errors
@@ -93,8 +114,12 @@ pub fn next_key<F: Files, T: Teller>(
     key_of(engine, token)
 }
 
-// What a token names that may be defined: a name or an active character.
-fn key_of(engine: &mut Engine, token: Token) -> Result<Key, Stop>
+/// What a token names that may be defined: a name or an active character.
+///
+/// # Errors
+///
+/// `Tex` with fault 18 where it is another token.
+pub fn key_of(engine: &mut Engine, token: Token) -> Result<Key, Stop>
     requires running { engine.old.stop ≡ None }
     requires sound { Sound engine.old }
     requires token { TokenWithin (length engine.old.names) token }

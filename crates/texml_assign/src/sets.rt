@@ -1,6 +1,6 @@
 //! What commands change.
 
-ghost use Rattle.std.specs.Prelude.{◌≡◌, length, None, Some, IfErr, OnOk, OnErr};
+ghost use Rattle.std.specs.Prelude.{◌≡◌, length, false, None, Some, IfErr, OnOk, OnErr};
 ghost use Rattle.texml_base.specs.Rising.{add_up};
 ghost use Rattle.texml_token.specs.Numbers.{token_at, TokenWithin};
 ghost use Rattle.texml_scope.specs.Groups.{begin_group as spec_begin_group, keep_after};
@@ -9,6 +9,7 @@ ghost use Rattle.texml_scope.specs.Shown.{world_of};
 ghost use Rattle.texml_scope.specs.declared.values.ValueOf.TheVariants.{Means};
 ghost use Rattle.texml_scope.specs.Numbers.{key_at, meaning_at, kind_at, KeyWithin, KindWithin, MeaningWithin};
 ghost use Rattle.texml_expand.specs.State.{change};
+ghost use Rattle.texml_expand.specs.Expand.{back};
 ghost use Rattle.texml_expand.specs.Contract.{Silent, stop_after};
 ghost use Rattle.texml_expand.specs.Held.{state_of, Sound, Kept};
 ghost use Rattle.texml_assign.specs.Advance.{Advances};
@@ -144,6 +145,23 @@ pub fn read_after(engine: &mut Engine, token: Token) -> Result<(), Stop>
         Ok(()) => Ok(()),
         Err(_) => Err(engine.no_memory()),
     }
+}
+
+/// Puts a token before what is to be read.
+///
+/// # Errors
+///
+/// `NoMemory` where memory was refused.
+pub fn put_back(engine: &mut Engine, token: Token) -> Result<(), Stop>
+    requires running { engine.old.stop ≡ None }
+    requires sound { Sound engine.old }
+    requires token { TokenWithin (length engine.old.names) token }
+    ensures puts { Silent (change (back (token_at engine.old.names token) false) (state_of engine.old)) result (state_of engine.new) }
+    ensures kept { engine.new.stop ≡ stop_after result }
+    ensures keeps { OnOk result (Kept engine.old engine.new) }
+    ensures advances { Advances engine.old engine.new }
+{
+    engine.back(token, false)
 }
 
 /// Puts the token that is kept for after an assignment, if there is one, before what is to be read.

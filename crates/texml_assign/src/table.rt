@@ -4,7 +4,8 @@ ghost use Rattle.std.specs.Prelude.{◌≡◌};
 ghost use Rattle.texml_assign.specs.Table.{executable_at, is_definition, is_assignment, with_prefix, may_follow};
 
 use texml_scope::builtins::{
-    AFTERASSIGNMENT, AFTERGROUP, BEGINGROUP, DEF, ENDGROUP, GDEF, GLOBAL, LET, LONG, OUTER, RELAX,
+    AFTERASSIGNMENT, AFTERGROUP, BEGINGROUP, DEF, ENDGROUP, GDEF, GLOBAL, LET, LONG, NEWCOMMAND,
+    OUTER, PROVIDECOMMAND, RELAX, RENEWCOMMAND,
 };
 
 /// A prefix of commands (The TeXbook, chapter 24).
@@ -13,6 +14,14 @@ pub enum Prefix {
     Long,
     Outer,
     Global,
+}
+
+/// Whether a command is made that is new, made again, or made where there is none.
+#[derive(Clone, Copy, Debug, PartialEq, Eq)]
+pub enum Naming {
+    New,
+    Renew,
+    Provide,
 }
 
 /// A command.
@@ -26,6 +35,7 @@ pub enum Command {
     EndGroup,
     AfterGroup,
     AfterAssignment,
+    NewCommand(Naming),
 }
 
 /// What can be executed.
@@ -68,6 +78,9 @@ pub fn executable_at(place: u16) -> Option<Executable>
         ENDGROUP => Some(Executable::Command(Command::EndGroup)),
         AFTERGROUP => Some(Executable::Command(Command::AfterGroup)),
         AFTERASSIGNMENT => Some(Executable::Command(Command::AfterAssignment)),
+        NEWCOMMAND => Some(Executable::Command(Command::NewCommand(Naming::New))),
+        RENEWCOMMAND => Some(Executable::Command(Command::NewCommand(Naming::Renew))),
+        PROVIDECOMMAND => Some(Executable::Command(Command::NewCommand(Naming::Provide))),
         _ => None,
     }
 }

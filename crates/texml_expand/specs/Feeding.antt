@@ -1,4 +1,4 @@
--- Only contracts of private functions need these: what the code decides by the tokens that it is fed, one after the other.
+-- What the code decides by the tokens that it is fed, one after the other.
 use Rattle.std.specs.Prelude.{◌≡◌, ◌<◌, ◌-◌, ◌+◌, ℕ, List, [], ◌∷◌, length, take, if◌then◌else◌, Result, Ok, Err}
 use Rattle.std.specs.List.{count_by}
 use Rattle.texml_token.specs.Token.{Token, has_category}

@@ -19,6 +19,7 @@ mod stop;
 
 pub use codes::{ScopeCodes, end_character};
 pub use engine::{ESCAPE, Engine};
+pub use feeding::{Feeder, Verdict};
 pub use laws::{always_decides, decides_once};
 pub use rest::Read;
 pub use stop::Stop;

@@ -64,7 +64,7 @@ fn texts_have_their_first_fault(rt: HostRuntime) -> Result<(), Fail> {
         (b"\\", 1, "\\\r"),
         (b"\\def\\a{x", 4, ""),
         (b"\\def a{x}", 18, ""),
-        (b"\\def\\a x{}", 14, ""),
+        (b"\\def\\a#2{}", 14, ""),
         (b"\\def\\a}", 22, ""),
         (b"\\def\\a{#}", 14, ""),
         (b"{\\def\\a{x}\\a}\\a", 1, "\\a"),

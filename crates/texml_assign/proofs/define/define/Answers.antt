@@ -1,5 +1,4 @@
-use Rattle.std.proofs.Common.{refl, sym, subst, rules}
-use Rattle.texml_token.specs.Numbers.{Extends}
+use Rattle.std.proofs.Common.{refl, subst, rules}
 use Rattle.texml_scope.specs.Texts.{Key, Meaning}
 use Rattle.texml_scope.specs.Numbers.{key_at, meaning_at}
 use Rattle.texml_expand.specs.State.{change}
@@ -7,7 +6,7 @@ use Rattle.texml_expand.specs.Held.{state_of}
 use Rattle.texml_expand.specs.Contract.{Silent}
 use Rattle.texml_assign.specs.Loop.{ByDepth}
 use Rattle.texml_assign.specs.Operands.{next_key}
-use Rattle.texml_assign.specs.Execute.{defined}
+use Rattle.texml_assign.specs.Define.{defined}
 use Rattle.texml_assign.specs.Sets.{assign}
 use Rattle.texml_assign.proofs.Readings.{Lawful, lawful_plain}
 use Rattle.texml_assign.proofs.Doing.{does_then, does_stop, does_silent}

@@ -1,5 +1,4 @@
-use Rattle.std.proofs.Common.{refl, sym, subst, rules}
-use Rattle.texml_token.specs.Numbers.{Extends}
+use Rattle.std.proofs.Common.{refl, subst, rules}
 use Rattle.texml_scope.specs.Texts.{Key, Meaning}
 use Rattle.texml_scope.specs.Numbers.{key_at, meaning_at}
 use Rattle.texml_expand.specs.State.{change}

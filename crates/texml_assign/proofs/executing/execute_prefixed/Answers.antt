@@ -1,5 +1,4 @@
-use Rattle.std.proofs.Common.{refl, subst, rules}
-use Rattle.texml_assign.specs.declared.table.Prefixes.{Prefixes}
+use Rattle.std.proofs.Common.{rules}
 use Rattle.texml_assign.specs.Table.{no_prefixes, with_prefix}
 use Rattle.texml_assign.specs.Execute.{perform, prefixed}
 use Rattle.texml_assign.proofs.Doing.{does_then, does_stop}

@@ -1,4 +1,4 @@
-use Rattle.std.proofs.Common.{Bool, if◌then◌else◌, Ok, refl, sym, ap, ◌∙◌, rules}
+use Rattle.std.proofs.Common.{Bool, if◌then◌else◌, Ok, sym, ap, ◌∙◌, rules}
 use Rattle.texml_expand.specs.State.{give, change}
 use Rattle.texml_expand.specs.Held.{state_of}
 use Rattle.texml_assign.specs.Sets.{put_kept}

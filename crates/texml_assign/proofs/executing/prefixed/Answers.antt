@@ -1,9 +1,8 @@
-use Rattle.std.proofs.Common.{Some, Ok, Err, refl, sym, ◌∙◌, rules, arith}
+use Rattle.std.proofs.Common.{Err, refl, sym, ◌∙◌, rules, arith}
 use Rattle.std.specs.Option.{option_map}
 use Rattle.texml_token.specs.Numbers.{token_at}
 use Rattle.texml_token.specs.declared.fault_code.TheConstants.{FILE_ENDED, BAD_PREFIX}
 use Rattle.texml_expand.specs.Expand.{level}
-use Rattle.texml_expand.specs.Held.{state_of}
 use Rattle.texml_expand.specs.Hearing.{hears, hears_part}
 use Rattle.texml_assign.specs.declared.table.Command.{Command as CommandWord}
 use Rattle.texml_assign.specs.declared.table.Prefixes.{Prefixes}

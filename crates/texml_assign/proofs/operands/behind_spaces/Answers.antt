@@ -1,5 +1,4 @@
-use Rattle.std.proofs.Common.{Some, Bool, true, false, refl, sym, ◌∙◌, rules, arith}
-use Rattle.texml_token.specs.Token.{Token}
+use Rattle.std.proofs.Common.{Some, true, false, refl, sym, ◌∙◌, rules, arith}
 use Rattle.texml_token.specs.Numbers.{token_at}
 use Rattle.texml_token.specs.declared.fault_code.TheConstants.{FILE_ENDED}
 use Rattle.texml_expand.specs.Held.{state_of}

@@ -1,4 +1,4 @@
-use Rattle.std.proofs.Common.{Ok, Err, refl, sym, ap, rules}
+use Rattle.std.proofs.Common.{sym, ap, rules}
 use Rattle.texml_token.specs.Numbers.{token_at}
 use Rattle.texml_scope.specs.Numbers.{meaning_at}
 use Rattle.texml_expand.specs.State.{Done, nothing}

@@ -1,4 +1,4 @@
-use Rattle.std.proofs.Common.{Some, None, refl, ap, rules}
+use Rattle.std.proofs.Common.{Some, None, refl, rules}
 use Rattle.texml_token.specs.Numbers.{token_at}
 use Rattle.texml_assign.specs.Operands.{token_or_end, needed}
 use Rattle.texml_assign.proofs.Readings.{lawful_plain}

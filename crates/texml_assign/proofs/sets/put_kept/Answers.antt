@@ -1,8 +1,7 @@
 use Rattle.std.proofs.Common.{None, length, sym, subst, ap, ◌∙◌}
 use Rattle.std.proofs.lemmas.Result.{on_ok_weaker}
 use Rattle.texml_token.specs.Numbers.{TokenWithin}
-use Rattle.texml_token.proofs.Table.{extends_refl}
-use Rattle.texml_expand.specs.Held.{Held, Kept}
+use Rattle.texml_expand.specs.Held.{Held}
 use Rattle.texml_expand.proofs.Fronts.{kept_then}
 use Rattle.texml_assign.proofs.Worlds.{kept_none, kept_some, kept_gone, kept_within, advances_put, advances_set, gone_kept}
 use Rattle.texml_assign.proofs.Doing.{advances_then}

@@ -15,18 +15,19 @@ use Rattle.texml_top.proofs.digest.digest_token.Goals as goal
 
 pub returns-in_err-done-clause-does : goal.returns-in_err-done-clause-does
 returns-in_err-done-clause-does g c =
-    let f = c.in_err-done.ensures in let t = token_at c.args.engine.now.names c.args.token in
+    let f = c.in_err-done.ensures in let run = c.requires.running in let t = token_at c.args.engine.now.names c.args.token in
     let h = does_stop _ _ (execute t) (λ done n. digest_left t done) (lawful_execute t) (lawful_left t) _ c.args.engine.now c.execute.new.engine _ _ _ _ c.requires.sound
-    (record { follows = f.follows; stops = f.stops; limit = f.limit; keeps = tt; advances = f.advances }) in
+    (record { follows = f.follows run; stops = f.stops run; limit = f.limit run; keeps = tt; advances = f.advances }) in
     search (rules, h)
 
 pub returns-in-Yes-clause-does : goal.returns-in-Yes-clause-does
 returns-in-Yes-clause-does g c =
     let f = c.in_ok-done.ensures in let t = token_at c.args.engine.now.names c.args.token in let mid = c.execute.new.engine in
-    let d = rw c.in-Yes.is at f.follows in
+    let run = c.requires.running in
+    let d = rw c.in-Yes.is at (f.follows run) in let stops = f.stops run in let keeps = f.keeps run in
     does_then _ _ (execute t) (λ done n. digest_left t done) (lawful_execute t) (lawful_left t) Yes (Ok []) c.args.engine.now mid mid _ _ _ _ _ _
-    (record { follows = d; stops = record { kept = f.stops.kept; reads = f.stops.reads; tells = f.stops.tells }; limit = tt; keeps = f.keeps; advances = f.advances })
-    (does_now _ _ (digest_left t Yes) (plain_left t Yes) [] mid _ _ f.keeps.sound f.stops.kept refl)
+    (record { follows = d; stops = record { kept = stops.kept; reads = stops.reads; tells = stops.tells }; limit = tt; keeps = keeps; advances = f.advances })
+    (does_now _ _ (digest_left t Yes) (plain_left t Yes) [] mid _ _ keeps.sound stops.kept refl)
 
 pub digest_left-requires-clause-token : goal.digest_left-requires-clause-token
 digest_left-requires-clause-token g c =
@@ -36,9 +37,10 @@ digest_left-requires-clause-token g c =
 pub returns-in-NotMine-clause-does : goal.returns-in-NotMine-clause-does
 returns-in-NotMine-clause-does g c =
     let f = c.in_ok-done.ensures in let old = c.args.engine.now in let t = token_at old.names c.args.token in let mid = c.execute.new.engine in let l = c.digest_left.ensures in let new = c.digest_left.new.engine in
-    let d = rw c.in-NotMine.is at f.follows in
+    let run = c.requires.running in
+    let d = rw c.in-NotMine.is at (f.follows run) in let stops = f.stops run in let keeps = f.keeps run in
     let same = ap (λ (h : Held). token_at h.names c.args.token) (c.in_ok-done.ensures.same c.in-NotMine.is).0 in
     let P : Token → Type 0 = λ t. Silent (digest_left t NotMine (state_of mid)) (ok_at option_to_list c.digest_left.result) (state_of new) in
     does_then _ _ (execute t) (λ done n. digest_left t done) (lawful_execute t) (lawful_left t) NotMine _ old mid new _ _ _ _ _ _
-    (record { follows = d; stops = record { kept = f.stops.kept; reads = f.stops.reads; tells = f.stops.tells }; limit = tt; keeps = f.keeps; advances = f.advances })
+    (record { follows = d; stops = record { kept = stops.kept; reads = stops.reads; tells = stops.tells }; limit = tt; keeps = keeps; advances = f.advances })
     (does_silent _ _ (digest_left t NotMine) (plain_left t NotMine) (ok_at option_to_list c.digest_left.result) mid new _ _ _ _ _ _ refl refl refl (subst P same l.digests) (kept_of option_to_list c.digest_left.result new.stop l.kept) (keeps_of option_to_list c.digest_left.result (Kept mid new) l.keeps) l.advances)

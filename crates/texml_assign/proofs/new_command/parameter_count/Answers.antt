@@ -1,0 +1,28 @@
+use Rattle.std.proofs.Common.{Ok, Err, refl, sym, ap, subst, rules}
+use Rattle.std.specs.Option.{option_map}
+use Rattle.texml_token.specs.Numbers.{token_at, tokens_at}
+use Rattle.texml_scope.specs.Numbers.{key_at}
+use Rattle.texml_expand.specs.Arguments.{read_optional}
+use Rattle.texml_expand.specs.Contract.{Silent}
+use Rattle.texml_expand.specs.Held.{Kept, state_of, ok_at}
+use Rattle.texml_expand.specs.Hearing.{hears, hears_part}
+use Rattle.texml_assign.specs.NewCommand.{number_said}
+use Rattle.texml_assign.proofs.NewCommands.{plain_optional, plain_number_said}
+use Rattle.texml_assign.proofs.Readings.{lawful_plain}
+use Rattle.texml_assign.proofs.Doing.{does_then, does_stop, does_silent, kept_of, keeps_of, advances_progress, advances_stopped}
+use Rattle.texml_assign.proofs.new_command.parameter_count.Goals as goal
+
+pub returns-in_err-said-clause-does : goal.returns-in_err-said-clause-does
+returns-in_err-said-clause-does g c =
+    let old = c.args.engine.now in let mid = c.read_optional.new.self in let a = c.in_err-said.ensures in let e = c.in_err-said.field-0.0 in let run = c.requires.running in
+    let h = does_stop (hears g.T.Teller.wanting g.T.Teller.heard) (hears_part g.T.Teller.wanting g.T.Teller.part) (λ n. read_optional) (λ v n. number_said v) (lawful_plain read_optional plain_optional) (λ v. lawful_plain (number_said v) (plain_number_said v)) e old mid _ _ _ _ c.requires.sound
+    (does_silent _ _ read_optional plain_optional (Err e) old mid _ _ _ _ _ _ (ap g.F.Files.faults a.files) (ap g.T.Teller.faults a.tell) a.tell (a.reads run) (a.kept run) tt (advances_progress old mid a.progress)) in
+    search (rules, h)
+
+pub returns-clause-does : goal.returns-clause-does
+returns-clause-does g c =
+    let old = c.args.engine.now in let mid = c.read_optional.new.self in let new = c.number_said.new.engine in let a = c.in_ok-said.ensures in let run = c.requires.running in
+    let v = option_map (tokens_at mid.names) c.in_ok-said.said in let n = c.number_said.ensures in let r = c.number_said.result in
+    does_then _ _ (λ n. read_optional) (λ v n. number_said v) (lawful_plain read_optional plain_optional) (λ v. lawful_plain (number_said v) (plain_number_said v)) v _ old mid new _ _ _ _ _ _
+    (does_silent _ _ read_optional plain_optional (Ok v) old mid _ _ _ _ _ _ (ap g.F.Files.faults a.files) (ap g.T.Teller.faults a.tell) a.tell (a.reads run) (a.kept run) (a.keeps run) (advances_progress old mid a.progress))
+    (does_silent _ _ (number_said v) (plain_number_said v) r mid new _ _ _ _ _ _ refl refl refl n.needs n.kept n.keeps (advances_stopped mid new new.stop n.is))
