@@ -18,23 +18,23 @@ use Rattle.texml_expand.specs.declared.stop.Stop.{Stop}
 use Rattle.texml_expand.specs.declared.stop.Stop.TheVariants as stop
 use Rattle.texml_expand.specs.Held.{ok_at}
 use Rattle.texml_expand.proofs.Least.{choose_yes, choose_no}
-use Rattle.texml_token.specs.declared.fault_code.TheConstants.{UNDEFINED, BAD_PARAMETER, MISPLACED, NAME_TAKEN}
+use Rattle.texml_token.specs.declared.fault_code.TheConstants.{UNDEFINED, NAME_TAKEN}
 use Rattle.texml_scope.specs.Texts.{Key, Meaning}
 use Rattle.texml_scope.specs.declared.values.MeaningOf.TheVariants.{Macro}
 use Rattle.texml_expand.specs.Rest.{Tok}
 use Rattle.texml_expand.specs.Next.{Taken}
-use Rattle.texml_expand.specs.State.{State, room, nothing, Done, Reading, chain, IsDecided, give, fail, change}
+use Rattle.texml_expand.specs.State.{State, room, nothing, Reading, chain, IsDecided, give, fail, change}
 use Rattle.texml_expand.specs.Contract.{Lower, Silent}
 use Rattle.texml_expand.specs.Expand.{back, spelling}
 use Rattle.texml_expand.specs.Arguments.{past_space, past_spaces, is_open_bracket, no_bracket, bracket_or_back, bracket, behind_bracket, read_argument, read_optional}
 use Rattle.texml_expand.specs.Arguments.{is_space as is_space_there, behind_spaces as behind_spaces_there}
 use Rattle.texml_expand.proofs.Calling.{bracket_leads, optional_decided}
 use Rattle.texml_expand.proofs.Falls.{Leads, leads_chain, leads_after, leads_weaker, lower_none, lower_then, count}
-use Rattle.texml_expand.proofs.Order.{grows_refl, Mono}
+use Rattle.texml_expand.proofs.Order.{grows_refl}
 use Rattle.texml_expand.proofs.Items.{size-cons}
 use Rattle.texml_assign.specs.declared.table.Naming.{Naming}
 use Rattle.texml_assign.specs.declared.table.Naming.TheVariants.{New, Renew, Provide}
-use Rattle.texml_assign.specs.Loop.{ByDepth, Next, On, Over, loops, looped, turned}
+use Rattle.texml_assign.specs.Loop.{On, Over, loops, looped, turned}
 use Rattle.texml_assign.specs.Meaning.{means}
 use Rattle.texml_assign.specs.Operands.{token_or_end, key_of, is_space, spaces_loop, behind_spaces}
 use Rattle.texml_assign.specs.Define.{body_said}

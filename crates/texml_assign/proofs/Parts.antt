@@ -1,16 +1,13 @@
 -- The parts of commands: each has one answer, and leaves no more to be read.
 use Rattle.std.proofs.Common.{◌≡◌, ◌+◌, ℕ, zero, suc, Bool, true, false, if◌then◌else◌, List, [], ◌∷◌, length, length-append, map, ◌++◌, ◌≤◌, Option, Some, None, Ok, Err, refl, sym, ap, ◌∙◌, arith}
 use Rattle.std.specs.List.{sum_by}
-use Rattle.std.specs.Option.{option_to_list}
 use Rattle.std.proofs.lemmas.List.Sums.{sum_by-cons}
 use Rattle.texml_token.specs.Token.{Token, Active, Named}
-use Rattle.texml_token.specs.declared.fault_code.TheConstants.{BAD_PREFIX}
 use Rattle.texml_scope.specs.declared.values.FaultOf.TheVariants.{WrongGroup}
 use Rattle.texml_scope.specs.Groups.{Open, put_below, begin_group, keep_in, end_in}
 use Rattle.texml_scope.specs.Texts.{Key, Kind, Value, Meaning, key_eq, kind_eq}
 use Rattle.texml_scope.specs.declared.values.MeaningOf.TheVariants.{Macro}
 use Rattle.texml_scope.specs.declared.values.ValueOf.TheVariants.{Means}
-use Rattle.texml_scope.specs.declared.values.KindOf.TheVariants.{Begin}
 use Rattle.texml_expand.specs.Next.{Taken, Given, Got, AtEnd, Invalid, next}
 use Rattle.texml_expand.specs.Codes.{cats_of, end_of}
 use Rattle.texml_expand.specs.Absorb.{absorbed, absorb}
@@ -18,31 +15,20 @@ use Rattle.texml_expand.specs.Least.{inside_if, inside, inner_token, next_tokens
 use Rattle.texml_expand.specs.declared.feeding.Verdict.{Verdict}
 use Rattle.texml_expand.specs.declared.feeding.Verdict.TheVariants.{TooShort, Yields, Refuses}
 use Rattle.texml_expand.proofs.Least.{Takes, take_takes, Decides, by_least_decided, by_least_leads}
-use Rattle.texml_expand.specs.State.{State, nothing, room, Done, Reading, chain, IsDecided, give, fail, change}
-use Rattle.texml_expand.specs.Expand.{take_given, take, back, put, level}
+use Rattle.texml_expand.specs.State.{State, nothing, room, Done, Reading, chain, IsDecided, give, change}
+use Rattle.texml_expand.specs.Expand.{take_given, take, back, put}
 use Rattle.texml_expand.specs.Contract.{Lower}
 use Rattle.texml_expand.specs.Rest.{Tok}
 use Rattle.texml_expand.proofs.Items.{size-cons, size_put}
-use Rattle.texml_expand.proofs.Falls.{Leads, leads_chain, leads_weaker, lower_none, lower_then, count, take_leads, level_leads}
-use Rattle.texml_expand.proofs.Order.{fetches_mono}
+use Rattle.texml_expand.proofs.Falls.{Leads, leads_chain, leads_weaker, lower_none, lower_then, count, take_leads}
 use Rattle.texml_expand.proofs.Settle.{any, chain_decided, take_decided}
-use Rattle.texml_expand.proofs.Total.{depth, decides}
-use Rattle.texml_assign.specs.declared.table.Prefix.{Prefix as PrefixWord}
-use Rattle.texml_assign.specs.declared.table.Command.{Command as CommandWord}
-use Rattle.texml_assign.specs.declared.table.Command.TheVariants.{Relax, Def, Gdef, Let, BeginGroup, EndGroup, AfterGroup, AfterAssignment}
-use Rattle.texml_assign.specs.declared.table.Executable.{Executable}
-use Rattle.texml_assign.specs.declared.table.Executable.TheVariants.{Prefix, Command}
-use Rattle.texml_assign.specs.declared.table.Prefixes.{Prefixes}
-use Rattle.texml_assign.specs.declared.executing.Executed.TheVariants.{Yes, NotMine}
-use Rattle.texml_assign.specs.Table.{executable_of, is_assignment, no_prefixes, with_prefix, may_follow}
 use Rattle.texml_assign.specs.Loop.{ByDepth, On, Over}
 use Rattle.texml_assign.specs.Meaning.{means}
 use Rattle.texml_assign.specs.Operands.{needed, next_token, token_of, token_or_end, key_of, next_key, is_space, space_turn, spaces_loop, behind_spaces, is_equals, behind_space, behind_sign, behind_equals, meaning_now, meant, with_token, look_ahead}
 use Rattle.texml_assign.specs.Parameters.{Head, text_of, body_of}
 use Rattle.texml_assign.specs.Define.{parameter_text, needed_body, body_said, next_body, macro_of, defined, assigned}
-use Rattle.texml_assign.specs.Sets.{assign, begin_kind, ended, end_kind, read_after, keep, keep_token, put_kept_of, put_kept}
-use Rattle.texml_assign.specs.Execute.{row, behind, perform, followed, prefix_word, prefix_turn, prefix_loop, prefixed, execute_prefixed, execute_word, execute_by, execute}
-use Rattle.texml_assign.proofs.Readings.{IsUnlimited, unlimited_chain, Lawful, Plain, lawful_plain, lawful_by, lawful_then, plain_by, plain_give, plain_fail, plain_change, plain_if, plain_then}
+use Rattle.texml_assign.specs.Sets.{assign, begin_kind, ended, end_kind, read_after, keep_token}
+use Rattle.texml_assign.proofs.Readings.{IsUnlimited, unlimited_chain, Lawful, Plain, lawful_plain, lawful_then, plain_by, plain_give, plain_fail, plain_change, plain_if, plain_then}
 use Rattle.texml_assign.proofs.Looping.{LawfulLoop, lawful_loop}
 
 -- a state of which no more is to be read

@@ -1,6 +1,6 @@
-use Rattle.std.proofs.Common.{length, Ok, Err, refl, sym, ap, subst, rules}
+use Rattle.std.proofs.Common.{length, Ok, Err, refl, ap, subst, rules}
 use Rattle.std.specs.Option.{option_map}
-use Rattle.texml_token.specs.Numbers.{token_at, tokens_at}
+use Rattle.texml_token.specs.Numbers.{tokens_at}
 use Rattle.texml_scope.specs.Numbers.{key_at}
 use Rattle.texml_expand.specs.Arguments.{read_argument}
 use Rattle.texml_expand.specs.Contract.{Silent}

@@ -1,4 +1,4 @@
-use Rattle.std.proofs.Common.{length, Ok, refl, sym, ap, subst, ◌∙◌, rules}
+use Rattle.std.proofs.Common.{length, sym, ap, subst, ◌∙◌, rules}
 use Rattle.std.specs.Option.{option_map}
 use Rattle.texml_token.specs.Numbers.{tokens_at}
 use Rattle.texml_scope.specs.declared.values.MeaningOf.TheVariants.{Macro}

@@ -1,5 +1,4 @@
 use Rattle.std.proofs.Common.{sym, ap, ◌∙◌}
-use Rattle.texml_token.specs.Token.{Token}
 use Rattle.texml_token.specs.Numbers.{token_at}
 use Rattle.texml_token.specs.declared.fault_code.TheConstants.{UNDEFINED, NAME_TAKEN}
 use Rattle.texml_expand.specs.Expand.{spelling}

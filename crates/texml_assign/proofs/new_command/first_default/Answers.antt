@@ -1,10 +1,8 @@
-use Rattle.std.proofs.Common.{Ok, Err, refl, sym, ap, subst, rules}
+use Rattle.std.proofs.Common.{Ok, Err, refl, ap, rules}
 use Rattle.std.specs.Option.{option_map}
-use Rattle.texml_token.specs.Numbers.{token_at, tokens_at}
-use Rattle.texml_scope.specs.Numbers.{key_at}
+use Rattle.texml_token.specs.Numbers.{tokens_at}
 use Rattle.texml_expand.specs.Arguments.{read_optional}
-use Rattle.texml_expand.specs.Contract.{Silent}
-use Rattle.texml_expand.specs.Held.{Kept, state_of, ok_at}
+use Rattle.texml_expand.specs.Held.{Kept, ok_at}
 use Rattle.texml_expand.specs.Hearing.{hears, hears_part}
 use Rattle.texml_assign.specs.NewCommand.{fitting}
 use Rattle.texml_assign.proofs.NewCommands.{plain_optional, plain_fitting}

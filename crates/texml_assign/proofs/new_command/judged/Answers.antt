@@ -1,4 +1,4 @@
-use Rattle.std.proofs.Common.{Bool, true, false, if◌then◌else◌, sym, ap, ◌∙◌}
+use Rattle.std.proofs.Common.{Bool, true, if◌then◌else◌, sym, ap, ◌∙◌}
 use Rattle.texml_token.specs.declared.fault_code.TheConstants.{UNDEFINED, NAME_TAKEN}
 use Rattle.texml_scope.specs.Numbers.{meaning_at}
 use Rattle.texml_expand.specs.State.{give, fail}

@@ -1,4 +1,4 @@
-use Rattle.std.proofs.Common.{false, not, Option, Some, None, refl, sym, ap, subst, ◌∙◌, rules}
+use Rattle.std.proofs.Common.{false, not, Option, Some, None, refl, subst, rules}
 use Rattle.std.specs.Option.{option_map}
 use Rattle.texml_scope.specs.Texts.{Key}
 use Rattle.texml_scope.specs.Numbers.{key_at, meaning_at}

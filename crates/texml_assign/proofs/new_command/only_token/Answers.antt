@@ -1,4 +1,4 @@
-use Rattle.std.proofs.Common.{◌≤◌, ◌<◌, length, get_or, refl, sym, ap, subst, ◌∙◌}
+use Rattle.std.proofs.Common.{◌≤◌, ◌<◌, length, sym, subst, ◌∙◌}
 use Rattle.texml_token.specs.Numbers.{TokenWithin, OptionWithin}
 use Rattle.texml_assign.proofs.NewCommands.{only_space, only_first, only_second, only_end}
 use Rattle.texml_assign.proofs.new_command.only_token.Goals.{then-not-has_category+else-is_some, else-not-has_category}

@@ -1,15 +1,12 @@
-use Rattle.std.proofs.Common.{Ok, Err, refl, sym, ap, subst, rules}
+use Rattle.std.proofs.Common.{Ok, Err, refl, ap, rules}
 use Rattle.std.specs.Option.{option_map}
-use Rattle.texml_token.specs.Numbers.{token_at, tokens_at}
-use Rattle.texml_scope.specs.Numbers.{key_at}
+use Rattle.texml_token.specs.Numbers.{tokens_at}
 use Rattle.texml_expand.specs.Arguments.{read_optional}
-use Rattle.texml_expand.specs.Contract.{Silent}
-use Rattle.texml_expand.specs.Held.{Kept, state_of, ok_at}
 use Rattle.texml_expand.specs.Hearing.{hears, hears_part}
 use Rattle.texml_assign.specs.NewCommand.{number_said}
 use Rattle.texml_assign.proofs.NewCommands.{plain_optional, plain_number_said}
 use Rattle.texml_assign.proofs.Readings.{lawful_plain}
-use Rattle.texml_assign.proofs.Doing.{does_then, does_stop, does_silent, kept_of, keeps_of, advances_progress, advances_stopped}
+use Rattle.texml_assign.proofs.Doing.{does_then, does_stop, does_silent, advances_progress, advances_stopped}
 use Rattle.texml_assign.proofs.new_command.parameter_count.Goals as goal
 
 pub returns-in_err-said-clause-does : goal.returns-in_err-said-clause-does
