@@ -12,7 +12,7 @@ use Rattle.texml_expand.specs.Next.{Taken}
 use Rattle.texml_expand.specs.State.{State, room, nothing, Answer, Done, Ended, Unfinished, Reading, after, chain, IsDecided, give}
 use Rattle.texml_expand.specs.Take.{take, back}
 use Rattle.texml_expand.specs.Least.{by_least}
-use Rattle.texml_expand.specs.Arguments.{decided_by, read_by, is_space, past_space, past_spaces, behind_spaces, is_open_bracket, close_bracket, no_bracket, bracket_or_back, bracket, some, behind_bracket, optional, first_argument, macro_arguments, filled, called}
+use Rattle.texml_expand.specs.Arguments.{decided_by, read_by, is_space, past_space, past_spaces, behind_spaces, is_sign, no_sign, sign_or_back, sign, open_bracket, close_bracket, some, behind_bracket, optional, first_argument, macro_arguments, filled, called}
 use Rattle.texml_expand.specs.Contract.{Lower}
 use Rattle.texml_expand.proofs.Items.{size-cons}
 use Rattle.texml_expand.proofs.Leading.{Leads, leads_chain, leads_weaker, count, lower_none, lower_then}
@@ -46,7 +46,7 @@ spaces_decided : (n : ℕ) (s : State) → IsDecided (past_spaces n s)
 spaces_decided zero s = take_decided s
 spaces_decided (suc n) s = chain_decided (λ o t. Unit {0}) (take s) (past_space (past_spaces n)) (take_decided s) (any (take s)) (λ o t _. past_decided (past_spaces n) (spaces_decided n) o t)
 
--- a bracket
+-- a sign
 back_size : (t : Token) (frozen : Bool) (rest : List (Item Token)) → size (back_as t frozen ∷ rest) ≡ size rest + 1
 back_size t true rest = omega (arith, size-cons (Frozen t) rest)
 back_size t false rest = omega (arith, size-cons (Tok t) rest)
@@ -63,27 +63,27 @@ back_lower t frozen s u g = record {
 lower_less : (k : ℕ) (s t : State) → Lower k s t → Lower 0 s t
 lower_less k s t l = lower_then k 0 0 s t t l (lower_none t) (omega arith)
 
-if_bracket_leads : (b : Bool) (x : Taken) (s t : State) → Takes 1 s t → Leads (λ found u. Lower 0 s u) ((if b then give true else no_bracket x) t)
-if_bracket_leads true x s t g = lower_less 1 s t g.lower
-if_bracket_leads false x s t g = back_lower x.token x.frozen s t g
+if_sign_leads : (b : Bool) (x : Taken) (s t : State) → Takes 1 s t → Leads (λ found u. Lower 0 s u) ((if b then give true else no_sign x) t)
+if_sign_leads true x s t g = lower_less 1 s t g.lower
+if_sign_leads false x s t g = back_lower x.token x.frozen s t g
 
-bracket_back_leads : (s : State) (o : Option Taken) (t : State) → Takes (count o) s t → Leads (λ found u. Lower 0 s u) (bracket_or_back o t)
-bracket_back_leads s None t g = g.lower
-bracket_back_leads s (Some x) t g = if_bracket_leads (is_open_bracket x.token) x s t g
+sign_back_leads : (code : ℕ) (s : State) (o : Option Taken) (t : State) → Takes (count o) s t → Leads (λ found u. Lower 0 s u) (sign_or_back code o t)
+sign_back_leads code s None t g = g.lower
+sign_back_leads code s (Some x) t g = if_sign_leads (is_sign code x.token) x s t g
 
-pub bracket_leads : (s : State) → Leads (λ found t. Lower 0 s t) (bracket s)
-bracket_leads s = leads_chain (λ o t. Takes (count o) s t) (λ found t. Lower 0 s t) (behind_spaces s) bracket_or_back (spaces_leads (room s) s) (bracket_back_leads s)
+pub sign_leads : (code : ℕ) (s : State) → Leads (λ found t. Lower 0 s t) (sign code s)
+sign_leads code s = leads_chain (λ o t. Takes (count o) s t) (λ found t. Lower 0 s t) (behind_spaces s) (sign_or_back code) (spaces_leads (room s) s) (sign_back_leads code s)
 
-if_bracket_decided : (b : Bool) (x : Taken) (t : State) → IsDecided ((if b then give true else no_bracket x) t)
-if_bracket_decided true x t = tt
-if_bracket_decided false x t = tt
+if_sign_decided : (b : Bool) (x : Taken) (t : State) → IsDecided ((if b then give true else no_sign x) t)
+if_sign_decided true x t = tt
+if_sign_decided false x t = tt
 
-bracket_back_decided : (o : Option Taken) (t : State) → IsDecided (bracket_or_back o t)
-bracket_back_decided None t = tt
-bracket_back_decided (Some x) t = if_bracket_decided (is_open_bracket x.token) x t
+sign_back_decided : (code : ℕ) (o : Option Taken) (t : State) → IsDecided (sign_or_back code o t)
+sign_back_decided code None t = tt
+sign_back_decided code (Some x) t = if_sign_decided (is_sign code x.token) x t
 
-bracket_decided : (s : State) → IsDecided (bracket s)
-bracket_decided s = chain_decided (λ o t. Unit {0}) (behind_spaces s) bracket_or_back (spaces_decided (room s) s) (any (behind_spaces s)) (λ o t _. bracket_back_decided o t)
+pub sign_decided : (code : ℕ) (s : State) → IsDecided (sign code s)
+sign_decided code s = chain_decided (λ o t. Unit {0}) (behind_spaces s) (sign_or_back code) (spaces_decided (room s) s) (any (behind_spaces s)) (λ o t _. sign_back_decided code o t)
 
 -- what is read by the least number of tokens
 module _ {A : Type 0} (reader : Reader A) where
@@ -106,7 +106,7 @@ behind_decided long true t =
     chain_decided (λ a u. Unit {0}) (read_by (argument long (close_bracket ∷ [])) t) (λ a. give (Some a)) (read_decided (argument long (close_bracket ∷ [])) t) (any (read_by (argument long (close_bracket ∷ [])) t)) (λ a u _. tt)
 
 pub optional_decided : (long : Bool) (s : State) → IsDecided (optional long s)
-optional_decided long s = chain_decided (λ found t. Unit {0}) (bracket s) (behind_bracket long) (bracket_decided s) (any (bracket s)) (λ found t _. behind_decided long found t)
+optional_decided long s = chain_decided (λ found t. Unit {0}) (sign open_bracket s) (behind_bracket long) (sign_decided open_bracket s) (any (sign open_bracket s)) (λ found t _. behind_decided long found t)
 
 first_decided : (long : Bool) (default : Option (List Token)) (s : State) → IsDecided (first_argument long default s)
 first_decided long None s = tt
@@ -132,7 +132,7 @@ behind_leads long false t = lower_none t
 behind_leads long true t = leads_chain (λ a u. Lower 0 t u) (λ o u. Lower 0 t u) (read_by (argument long (close_bracket ∷ [])) t) (λ a. give (Some a)) (read_lower (argument long (close_bracket ∷ [])) t) (λ a u l. l)
 
 optional_leads : (long : Bool) (s : State) → Leads (λ o t. Lower 0 s t) (optional long s)
-optional_leads long s = leads_chain (λ found t. Lower 0 s t) (λ o t. Lower 0 s t) (bracket s) (behind_bracket long) (bracket_leads s) (λ found t l. led s t (behind_bracket long found t) l (behind_leads long found t))
+optional_leads long s = leads_chain (λ found t. Lower 0 s t) (λ o t. Lower 0 s t) (sign open_bracket s) (behind_bracket long) (sign_leads open_bracket s) (λ found t l. led s t (behind_bracket long found t) l (behind_leads long found t))
 
 first_leads : (long : Bool) (default : Option (List Token)) (s : State) → Leads (λ first t. Lower 0 s t) (first_argument long default s)
 first_leads long None s = lower_none s

@@ -1,7 +1,7 @@
 -- Readings that decide.
-use Rattle.std.proofs.Common.{Option, Some, None}
+use Rattle.std.proofs.Common.{◌≡◌, Option, Some, None, refl}
 use Rattle.texml_expand.specs.Next.{Taken, Given, Got, AtEnd, Invalid, next}
-use Rattle.texml_expand.specs.State.{State, Gains, Answer, Done, Ended, Unfinished, Reading, after, chain, IsDecided}
+use Rattle.texml_expand.specs.State.{State, Gains, Answer, Done, Ended, Unfinished, Reading, nothing, after, chain, IsDecided}
 use Rattle.texml_expand.specs.Codes.{cats_of, end_of}
 use Rattle.texml_expand.specs.Take.{take_given, take}
 use Rattle.texml_expand.proofs.Leading.{Leads}
@@ -15,6 +15,11 @@ pub decided_after : {A : Type 0} (gains : Gains) (a : Answer A) → IsDecided a 
 decided_after gains (Done v s more) d = tt
 decided_after gains (Ended e more) d = tt
 decided_after gains (Unfinished more) d = d
+
+pub after_nothing : {A : Type 0} (a : Answer A) → after nothing a ≡ a
+after_nothing (Done v s gains) = refl
+after_nothing (Ended e gains) = refl
+after_nothing (Unfinished gains) = refl
 
 -- a chain decides where its first part does, and its second part behind each value that the first may give
 pub chain_decided : {A B : Type 0} (P : A → State → Type 0) (a : Answer A) (f : A → Reading B) → IsDecided a → Leads P a → ((v : A) (t : State) → P v t → IsDecided (f v t))

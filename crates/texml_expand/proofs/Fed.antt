@@ -19,15 +19,11 @@ use Rattle.texml_expand.specs.Held.{Held, state_of, Sound, Kept, Progress, ok_at
 use Rattle.texml_expand.specs.Contract.{Silent, IsFaultAt}
 use Rattle.texml_expand.specs.Least.{inner_token, next_tokens, decides, decided, is_enough, by_least}
 use Rattle.texml_expand.specs.Feeding.{Judge, IsFed, Short, Seen, Settled, CutShort, EndsWith, Refused, Cut, Feeds}
+use Rattle.texml_expand.proofs.Deciding.{after_nothing}
 use Rattle.texml_expand.proofs.Falls.{Leads, leads_at}
 use Rattle.texml_expand.proofs.Progress.{progress_itself, progress_then}
 use Rattle.texml_expand.proofs.Fronts.{kept_then, kept_itself}
 use Rattle.texml_expand.proofs.Least.{Takes, Took, takes_room, inner_takes, next_took, one_more, by_least_at, by_least_ends}
-
-after_nothing : {A : Type 0} (a : Answer A) → after nothing a ≡ a
-after_nothing (Done v s gains) = refl
-after_nothing (Ended e gains) = refl
-after_nothing (Unfinished gains) = refl
 
 -- one more token behind the first k
 pub tokens_more_one : (old now new : State) (list : List Token) (t : Token) (k : ℕ) → next_tokens k old ≡ Done list now nothing → inner_token now ≡ Done t new nothing → next_tokens (suc k) old ≡ Done (list ++ t ∷ []) new nothing
@@ -40,7 +36,7 @@ tokens_end old now list end k e h = ap (λ a. chain a one_more) e ∙ after_noth
 pub inner_smaller : (now new : State) (t : Token) → inner_token now ≡ Done t new nothing → room new + 1 ≤ room now
 inner_smaller now new t e = let l = leads_at (λ x s. Takes 1 now s) (inner_token now) t new nothing e (inner_takes now) in l.lower.size l.begun
 
-push_length : {A : Type 0} (list : List A) (t : A) → length (list ++ t ∷ []) ≡ suc (length list)
+pub push_length : {A : Type 0} (list : List A) (t : A) → length (list ++ t ∷ []) ≡ suc (length list)
 push_length list t = omega (arith, length-append list (t ∷ []))
 
 -- an engine that feeds: these tokens were fed, and no first part of them decides

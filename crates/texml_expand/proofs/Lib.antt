@@ -24,3 +24,9 @@ pub mod Rounds
 pub mod Least
 pub mod Fed
 pub mod Groups
+pub mod Sequence
+pub mod Spacing
+pub mod Matching
+pub mod Mapping
+pub mod Called
+pub mod Lengths

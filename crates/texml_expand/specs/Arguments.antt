@@ -34,7 +34,7 @@ decided_by (Fails f) = Refuses (fault_number f)
 abbrev pub read_by : {A : Type 0} → Reader A → Reading A
 read_by reader = by_least (λ list. decided_by (reader list))
 
--- Spaces and brackets
+-- Spaces and signs
 
 -- a space: a character of that category, or what means one
 abbrev pub means_space : Option Meaning → Bool
@@ -60,31 +60,32 @@ past_spaces (suc n) = do
 abbrev pub behind_spaces : Reading (Option Taken)
 behind_spaces s = past_spaces (room s) s
 
-abbrev pub open_bracket : Token
-open_bracket = Char 91 OTHER
-
-abbrev pub close_bracket : Token
-close_bracket = Char 93 OTHER
-
-abbrev pub is_open_bracket : Token → Bool
-is_open_bracket (Char c category) = c == 91 && category == OTHER
-is_open_bracket t = false
+-- this character, of category 12
+abbrev pub is_sign : ℕ → Token → Bool
+is_sign code (Char c category) = c == code && category == OTHER
+is_sign code t = false
 
 -- another token goes back as it was
-abbrev pub no_bracket : Taken → Reading Bool
-no_bracket t = do
+abbrev pub no_sign : Taken → Reading Bool
+no_sign t = do
   change (back t.token t.frozen)
   give false
 
-abbrev pub bracket_or_back : Option Taken → Reading Bool
-bracket_or_back None = give false
-bracket_or_back (Some t) = if is_open_bracket t.token then give true else no_bracket t
+abbrev pub sign_or_back : ℕ → Option Taken → Reading Bool
+sign_or_back code None = give false
+sign_or_back code (Some t) = if is_sign code t.token then give true else no_sign t
 
--- whether an opening bracket comes behind spaces, which is taken with them; else the spaces alone are
-abbrev pub bracket : Reading Bool
-bracket = do
+-- whether this sign comes behind spaces, which is taken with them; else the spaces alone are
+abbrev pub sign : ℕ → Reading Bool
+sign code = do
   o ← behind_spaces
-  bracket_or_back o
+  sign_or_back code o
+
+abbrev pub open_bracket : ℕ
+open_bracket = 91
+
+abbrev pub close_bracket : Token
+close_bracket = Char 93 OTHER
 
 -- Arguments
 
@@ -100,7 +101,7 @@ behind_bracket long true = some (read_by (argument long (close_bracket ∷ [])))
 -- an argument in brackets behind spaces, where there is one
 abbrev pub optional : Bool → Reading (Option (List Token))
 optional long = do
-  found ← bracket
+  found ← sign open_bracket
   behind_bracket long found
 
 -- the first argument of a macro, where it has a default: that in brackets, or else the default

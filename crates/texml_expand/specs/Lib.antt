@@ -15,4 +15,5 @@ pub mod Lending
 pub mod Sources
 pub mod Turning
 pub mod Fronts
+pub mod Filling
 pub mod Feeding

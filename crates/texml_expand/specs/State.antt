@@ -27,7 +27,7 @@ pub data End : Type 0 where
   Tex : Fault → End
   Limit : ℕ → End
 
--- the fault of this number at the place of the line last loaded
+-- the fault of this number, placed where a line was loaded last
 abbrev pub fault_at : ℕ → List ℕ → Place → Fault
 fault_at code about place = record { code = code; file = place.file; line = place.line; about = about }
 
@@ -78,7 +78,7 @@ abbrev pub ◌>>◌ : {A B : Type 0} → Reading A → Reading B → Reading B
 abbrev pub give : {A : Type 0} → A → Reading A
 give a s = Done a s nothing
 
--- a fault at the place of the line last loaded
+-- a fault, placed where a line was loaded last
 abbrev pub fail : {A : Type 0} → ℕ → List ℕ → Reading A
 fail code about s = Ended (Tex (fault_at code about s.place)) nothing
 

@@ -45,6 +45,23 @@ impl Shape {
         })
     }
 
+    /// The shape of one argument with these tokens behind it, where nothing stands before it.
+    ///
+    /// # Errors
+    ///
+    /// `AllocError` where there is no memory.
+    pub fn of_one(alloc: Global, delimiter: Tokens, long: bool) -> Result<Shape, AllocError>
+        ensures { IfOk result (λ shape. shape ≡ record { prefix = []; delimiters = delimiter ∷ []; long = long }) }
+    {
+        let mut delimiters = Vec::new(alloc);
+        delimiters.push(delimiter)?;
+        Ok(Shape {
+            prefix: Tokens::new(alloc),
+            delimiters,
+            long,
+        })
+    }
+
     /// Whether there is nothing to be read.
     pub fn is_empty(&self) -> bool
         ensures { result ≡ is_empty self.now }
