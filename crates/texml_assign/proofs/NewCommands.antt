@@ -26,9 +26,9 @@ use Rattle.texml_expand.specs.Next.{Taken}
 use Rattle.texml_expand.specs.State.{State, room, nothing, Reading, chain, IsDecided, give, fail, change}
 use Rattle.texml_expand.specs.Contract.{Lower, Silent}
 use Rattle.texml_expand.specs.Expand.{back, spelling}
-use Rattle.texml_expand.specs.Arguments.{past_space, past_spaces, is_open_bracket, no_bracket, bracket_or_back, bracket, behind_bracket, read_argument, read_optional}
+use Rattle.texml_expand.specs.Arguments.{past_space, past_spaces, is_sign, no_sign, sign_or_back, sign, open_bracket, behind_bracket, read_argument, read_optional}
 use Rattle.texml_expand.specs.Arguments.{is_space as is_space_there, behind_spaces as behind_spaces_there}
-use Rattle.texml_expand.proofs.Calling.{bracket_leads, optional_decided}
+use Rattle.texml_expand.proofs.Calling.{sign_leads, sign_decided}
 use Rattle.texml_expand.proofs.Falls.{Leads, leads_chain, leads_after, leads_weaker, lower_none, lower_then, count}
 use Rattle.texml_expand.proofs.Order.{grows_refl}
 use Rattle.texml_expand.proofs.Items.{size-cons}
@@ -38,9 +38,9 @@ use Rattle.texml_assign.specs.Loop.{On, Over, loops, looped, turned}
 use Rattle.texml_assign.specs.Meaning.{means}
 use Rattle.texml_assign.specs.Operands.{token_or_end, key_of, is_space, spaces_loop, behind_spaces}
 use Rattle.texml_assign.specs.Define.{body_said}
-use Rattle.texml_assign.specs.NewCommand.{is_star, no_star, star_or_back, starred, only, without_spaces, only_token, is_undefined, is_free, defines, keep_if, defines_now, key_to_define, key_of_name, command_key, needed_number, only_digit, number_said, parameter_count, fitting, first_default, argument_body, numbered, command_of, command_macro, assign_some, new_command}
+use Rattle.texml_assign.specs.NewCommand.{starred, only, without_spaces, only_token, is_undefined, is_free, defines, keep_if, defines_now, key_to_define, key_of_name, command_key, needed_number, only_digit, number_said, parameter_count, fitting, first_default, argument_body, numbered, command_of, command_macro, assign_some, new_command}
 use Rattle.texml_assign.proofs.Readings.{IsUnlimited, unlimited_chain, Lawful, Sure, Plain, mono_chain, settles_chain, falls_then, lawful_plain, lawful_then, plain_by, plain_give, plain_fail, plain_change, plain_if, plain_then}
-use Rattle.texml_assign.proofs.Parts.{plain_take, plain_by_least, plain_key_of, plain_body_said, plain_assign, token_lowers, kept_lower, lawful_spaces}
+use Rattle.texml_assign.proofs.Parts.{plain_take, plain_by_least, plain_key_of, plain_body_said, plain_assign}
 
 -- What the engine reads
 
@@ -56,67 +56,29 @@ spaces_unlimited : (n : ℕ) (s : State) → IsUnlimited (past_spaces n s)
 spaces_unlimited zero s = plain_take.unlimited s
 spaces_unlimited (suc n) s = unlimited_chain _ (past_space (past_spaces n)) (plain_take.unlimited s) (λ o t. space_unlimited (past_spaces n) (spaces_unlimited n) o t)
 
-back_unlimited : (o : Option Taken) (s : State) → IsUnlimited (bracket_or_back o s)
-back_unlimited None s = tt
-back_unlimited (Some t) s = if_unlimited (is_open_bracket t.token) (give true) (no_bracket t) s tt tt
+back_unlimited : (code : ℕ) (o : Option Taken) (s : State) → IsUnlimited (sign_or_back code o s)
+back_unlimited code None s = tt
+back_unlimited code (Some t) s = if_unlimited (is_sign code t.token) (give true) (no_sign t) s tt tt
 
-bracket_unlimited : (s : State) → IsUnlimited (bracket s)
-bracket_unlimited s = unlimited_chain (behind_spaces_there s) bracket_or_back (spaces_unlimited (room s) s) (λ o t. back_unlimited o t)
+plain_sign : (code : ℕ) → Plain (sign code)
+plain_sign code = record {
+  decided = sign_decided code;
+  falls = sign_leads code;
+  unlimited = λ s. unlimited_chain (behind_spaces_there s) (sign_or_back code) (spaces_unlimited (room s) s) (λ o t. back_unlimited code o t);
+}
+
+pub plain_starred : Plain starred
+plain_starred = plain_sign 42
 
 plain_behind_bracket : (found : Bool) → Plain (behind_bracket true found)
 plain_behind_bracket false = plain_give None
 plain_behind_bracket true = plain_then _ (λ a. give (Some a)) (plain_by_least _) (λ a. plain_give _)
 
 pub plain_optional : Plain read_optional
-plain_optional = record {
-  decided = optional_decided true;
-  falls = λ s. falls_then (bracket s) (behind_bracket true) s (bracket_leads s) (λ found t. (plain_behind_bracket found).falls t);
-  unlimited = λ s. unlimited_chain (bracket s) (behind_bracket true) (bracket_unlimited s) (λ found t. (plain_behind_bracket found).unlimited t);
-}
+plain_optional = plain_then (sign open_bracket) (behind_bracket true) (plain_sign open_bracket) plain_behind_bracket
 
 pub plain_argument : Plain read_argument
 plain_argument = plain_by_least _
-
--- The star
-
-turn_lower : (n : ℕ) (x : Token) (s t : State) (b : Bool) → Lower 1 s t → ((t : State) → Leads (λ x u. Lower 1 t u) (behind_spaces n t))
-    → Leads (λ x u. Lower 1 s u) (looped (λ seen. loops spaces_loop seen n) (if b then On tt else Over x) t)
-turn_lower n x s t true low more = leads_weaker (λ x u. Lower 1 t u) (λ x u. Lower 1 s u) (behind_spaces n t) (λ x u l. lower_then 1 1 1 s t u low l (omega arith)) (more t)
-turn_lower n x s t false low more = low
-
-token_lower : (n : ℕ) (s : State) (o : Option Token) (t : State) → Lower (count o) s t → ((t : State) → Leads (λ x u. Lower 1 t u) (behind_spaces n t)) → Leads (λ x u. Lower 1 s u) (turned spaces_loop (λ seen. loops spaces_loop seen n) n tt o t)
-token_lower n s None t low more = tt
-token_lower n s (Some x) t low more =
-    leads_after (λ x u. Lower 1 s u) nothing (looped (λ seen. loops spaces_loop seen n) (if is_space (means t.world x) then On tt else Over x) t) (turn_lower n x s t (is_space (means t.world x)) low more)
-
-spaces_lower : (n : ℕ) (s : State) → Leads (λ x u. Lower 1 s u) (behind_spaces n s)
-spaces_lower zero s = tt
-spaces_lower (suc n) s =
-    leads_chain (λ o t. Lower (count o) s t) (λ x u. Lower 1 s u) (token_or_end s) (turned spaces_loop (λ seen. loops spaces_loop seen n) n tt) (token_lowers s) (λ o t low. token_lower n s o t low (spaces_lower n))
-
-if_star_decided : (b : Bool) (t : Token) (s : State) → IsDecided ((if b then give true else no_star t) s)
-if_star_decided true t s = tt
-if_star_decided false t s = tt
-
-pub star_decided : (t : Token) (s : State) → IsDecided (star_or_back t s)
-star_decided t s = if_star_decided (is_star t) t s
-
-pub star_unlimited : (t : Token) (s : State) → IsUnlimited (star_or_back t s)
-star_unlimited t s = if_unlimited (is_star t) (give true) (no_star t) s tt tt
-
-if_star_lower : (b : Bool) (t : Token) (s u : State) → Lower 1 s u → Leads (λ x v. Lower 0 s v) ((if b then give true else no_star t) u)
-if_star_lower true t s u low = lower_then 1 0 0 s u u low (lower_none u) (omega arith)
-if_star_lower false t s u low = kept_lower s u (back t false u) low refl refl refl (let e = size-cons (Tok t) u.rest in omega (arith, e))
-
-pub sure_star : (t : Token) → Sure (λ n. star_or_back t)
-sure_star t = record { mono = λ s. record { grows = λ n m le. grows_refl (star_or_back t s) }; settles = λ s w. record { at = 0; decided = star_decided t s } }
-
-pub lawful_starred : Lawful starred
-lawful_starred = record {
-  mono = λ s. mono_chain (λ n. behind_spaces n s) (λ n. star_or_back) (lawful_spaces.mono s) (λ t u. (sure_star t).mono u);
-  settles = λ s w. settles_chain (λ n. behind_spaces n s) (λ n. star_or_back) (lawful_spaces.mono s) (λ t u. (sure_star t).mono u) (lawful_spaces.settles s w) (λ t u gains e. record { at = 0; decided = star_decided t u });
-  falls = λ n s. leads_chain (λ t u. Lower 1 s u) (λ x v. Lower 0 s v) (behind_spaces n s) star_or_back (spaces_lower n s) (λ t u low. if_star_lower (is_star t) t s u low);
-}
 
 -- The name
 
@@ -209,7 +171,7 @@ pub plain_star_read : (naming : Naming) (star : Bool) → Plain (star_read namin
 plain_star_read naming star = plain_then (command_key naming) (key_read star) (plain_command_key naming) (plain_key_read star)
 
 pub lawful_new_command : (naming : Naming) → Lawful (new_command naming)
-lawful_new_command naming = lawful_then starred (λ star n. star_read naming star) lawful_starred (λ star. lawful_plain (star_read naming star) (plain_star_read naming star))
+lawful_new_command naming = lawful_then (λ n. starred) (λ star n. star_read naming star) (lawful_plain starred plain_starred) (λ star. lawful_plain (star_read naming star) (plain_star_read naming star))
 
 -- Parameters one behind the other
 
@@ -329,12 +291,3 @@ default_stays old new (Some list) g w = ap Some (tokens_kept old new g list w)
 pub default_more : (m n : ℕ) (default : Option (List TokenCode)) → m ≤ n → OptionWithin (TokensWithin m) default → OptionWithin (TokensWithin n) default
 default_more m n None le w = tt
 default_more m n (Some list) le w = tokens_more m n le list w
-
--- a star or not, in the code
-pub put_star : (t : Token) (s new : State) (r : Result (Unit {0}) Stop) → is_star t ≡ false → Silent (change (back t false) s) r new → Silent (star_or_back t s) (ok_at (λ _. false) r) new
-put_star t s new (Ok v) e h = ap (λ (b : Bool). (if b then give true else no_star t) s) e ∙ ap (λ x. chain x (λ _. give false)) h
-put_star t s new (Err (stop.Tex f)) e h = cc
-put_star t s new (Err (stop.Limit n)) e h = cc
-put_star t s new (Err stop.ReadFailed) e h = absurd h
-put_star t s new (Err stop.TellFailed) e h = absurd h
-put_star t s new (Err stop.NoMemory) e h = tt

@@ -71,7 +71,7 @@ count_of (Some t) = refl
 pub token_takes : (s : State) → Leads (λ o t. Takes (count o) s t) (token_or_end s)
 token_takes s = leads_chain (λ o t. Takes (count o) s t) (λ o t. Takes (count o) s t) (take s) (λ o. give (token_of o)) (take_takes s) (λ o t low. rw (count_of o) low)
 
-pub token_lowers : (s : State) → Leads (λ o t. Lower (count o) s t) (token_or_end s)
+token_lowers : (s : State) → Leads (λ o t. Lower (count o) s t) (token_or_end s)
 token_lowers s = leads_chain (λ o t. Lower (count o) s t) (λ o t. Lower (count o) s t) (take s) (λ o. give (token_of o)) (take_leads s) (λ o t low. rw (count_of o) low)
 
 -- Spaces
@@ -155,7 +155,7 @@ needed_one (Some x) s t low = low
 next_lowers : (s : State) → Leads (λ t u. Lower 1 s u) (next_token s)
 next_lowers s = leads_chain (λ o t. Lower (count o) s t) (λ t u. Lower 1 s u) (token_or_end s) needed (token_lowers s) (λ o t low. needed_one o s t low)
 
-pub kept_lower : (s t u : State) → Lower 1 s t → u.limit ≡ t.limit → u.nesting ≡ t.nesting → u.begun ≡ t.begun → room u ≤ room t + 1 → Lower 0 s u
+kept_lower : (s t u : State) → Lower 1 s t → u.limit ≡ t.limit → u.nesting ≡ t.nesting → u.begun ≡ t.begun → room u ≤ room t + 1 → Lower 0 s u
 kept_lower s t u low limit nesting begun more = record {
   limit = limit ∙ low.limit;
   nesting = nesting ∙ low.nesting;

@@ -4,44 +4,29 @@ use Rattle.std.specs.Option.{option_and_then}
 use Rattle.texml_token.specs.Token.{Token, Char, has_category}
 use Rattle.texml_token.specs.declared.pieces.PieceOf.{PieceOf}
 use Rattle.texml_token.specs.declared.pieces.PieceOf.TheVariants.{Slot}
-use Rattle.texml_token.specs.declared.category.TheConstants.{SPACE, OTHER}
+use Rattle.texml_token.specs.declared.category.TheConstants.{SPACE}
 use Rattle.texml_token.specs.declared.fault_code.TheConstants.{UNDEFINED, BAD_PARAMETER, MISPLACED, NAME_TAKEN}
 use Rattle.texml_scope.specs.Texts.{Key, Meaning}
 use Rattle.texml_scope.specs.Values.{Macro as MacroBy}
 use Rattle.texml_scope.specs.declared.builtins.TheConstants.{RELAX}
 use Rattle.texml_scope.specs.declared.values.MeaningOf.TheVariants.{Undefined, Builtin, Macro}
 use Rattle.texml_expand.specs.State.{State, Reading, ◌>>=◌, ◌>>◌, give, fail, change}
-use Rattle.texml_expand.specs.Expand.{back, spelling}
-use Rattle.texml_expand.specs.Arguments.{read_argument, read_optional}
+use Rattle.texml_expand.specs.Expand.{spelling}
+use Rattle.texml_expand.specs.Arguments.{sign, read_argument, read_optional}
 use Rattle.texml_assign.specs.declared.table.Naming.{Naming}
 use Rattle.texml_assign.specs.declared.table.Naming.TheVariants.{New, Renew, Provide}
 use Rattle.texml_assign.specs.Loop.{ByDepth}
 use Rattle.texml_assign.specs.Meaning.{means}
-use Rattle.texml_assign.specs.Operands.{key_of, behind_spaces}
+use Rattle.texml_assign.specs.Operands.{key_of}
 use Rattle.texml_assign.specs.Parameters.{digit}
 use Rattle.texml_assign.specs.Define.{body_said}
 use Rattle.texml_assign.specs.Sets.{assign}
 
 -- The star
 
--- the character * of category 12
-abbrev pub is_star : Token → Bool
-is_star (Char c category) = c == 42 && category == OTHER
-is_star t = false
-
-abbrev pub no_star : Token → Reading Bool
-no_star t = do
-  change (back t false)
-  give false
-
-abbrev pub star_or_back : Token → Reading Bool
-star_or_back t = if is_star t then give true else no_star t
-
--- whether a star comes behind spaces, which is taken with them; another token isn't. There must be one
-abbrev pub starred : ByDepth Bool
-starred n = do
-  t ← behind_spaces n
-  star_or_back t
+-- whether a star of category 12 comes behind spaces, which is taken with them
+abbrev pub starred : Reading Bool
+starred = sign 42
 
 -- The name
 
@@ -156,7 +141,7 @@ assign_some (Some k) m s = assign false k m s
 -- a star behind which the macro isn't long, a name, and the macro that it means from now on, where it is to be defined
 abbrev pub new_command : Naming → ByDepth (Unit {0})
 new_command naming n = do
-  star ← starred n
+  star ← starred
   k ← command_key naming
   m ← command_macro (not star)
   change (assign_some k m)

@@ -10,18 +10,17 @@ ghost use Rattle.texml_expand.specs.Contract.{Silent, IsFaultAt, outside, stop_a
 ghost use Rattle.texml_expand.specs.Expand.{spelling};
 ghost use Rattle.texml_expand.specs.Hearing.{hears, hears_part};
 ghost use Rattle.texml_expand.specs.Held.{state_of, Sound, Kept, ok_at};
-ghost use Rattle.texml_assign.specs.Advance.{Advances};
 ghost use Rattle.texml_assign.specs.Doing.{Does};
 ghost use Rattle.texml_token.specs.Token.{Token as TokenText};
 ghost use Rattle.texml_expand.specs.State.{State};
 ghost use Rattle.texml_assign.specs.Allowing.{allowed_as};
-ghost use Rattle.texml_assign.specs.NewCommand.{is_star as spec_is_star, star_or_back as spec_star_or_back, starred as spec_starred, only_token as spec_only_token, is_undefined as spec_is_undefined, is_free as spec_is_free, defines as spec_defines, defines_now as spec_defines_now, key_of_name as spec_key_of_name, command_key as spec_command_key, only_digit as spec_only_digit, number_said as spec_number_said, parameter_count as spec_parameter_count, fitting as spec_fitting, first_default as spec_first_default, argument_body as spec_argument_body, numbered as spec_numbered, command_of as spec_command_of, command_macro as spec_command_macro, new_command as spec_new_command};
+ghost use Rattle.texml_assign.specs.NewCommand.{starred as spec_starred, only_token as spec_only_token, is_undefined as spec_is_undefined, is_free as spec_is_free, defines as spec_defines, defines_now as spec_defines_now, key_of_name as spec_key_of_name, command_key as spec_command_key, only_digit as spec_only_digit, number_said as spec_number_said, parameter_count as spec_parameter_count, fitting as spec_fitting, first_default as spec_first_default, argument_body as spec_argument_body, numbered as spec_numbered, command_of as spec_command_of, command_macro as spec_command_macro, new_command as spec_new_command};
 
 use crate::define::body_said;
 use crate::meaning::meaning_of;
-use crate::operands::{behind_spaces, key_of};
+use crate::operands::key_of;
 use crate::parameters::digit;
-use crate::sets::{assign, put_back};
+use crate::sets::assign;
 use crate::table::Naming;
 use std::alloc::{AllocError, Global};
 use texml_base::Files;
@@ -80,39 +79,11 @@ fn starred<F: Files, T: Teller>(
 ) -> Result<bool, Stop>
     requires running { engine.old.stop ≡ None }
     requires sound { Sound engine.old }
-    ensures does { Does (hears T.wanting T.heard) (hears_part T.wanting T.part) spec_starred result engine.old engine.new
+    ensures does { Does (hears T.wanting T.heard) (hears_part T.wanting T.part) (λ n. spec_starred) result engine.old engine.new
         (outside (F.faults files.old) (T.faults tell.old)) (outside (F.faults files.new) (T.faults tell.new)) tell.old tell.new }
     ensures files { files.new ≡ files.old }
 {
-    let token = behind_spaces(engine, files, tell)?;
-    star_or_back(engine, token)
-}
-
-// Whether a token is a star; another one is put back.
-fn star_or_back(engine: &mut Engine, token: Token) -> Result<bool, Stop>
-    requires running { engine.old.stop ≡ None }
-    requires sound { Sound engine.old }
-    requires token { TokenWithin (length engine.old.names) token }
-    ensures stars { Silent (spec_star_or_back (token_at engine.old.names token) (state_of engine.old)) result (state_of engine.new) }
-    ensures kept { engine.new.stop ≡ stop_after result }
-    ensures keeps { OnOk result (Kept engine.old engine.new) }
-    ensures advances { Advances engine.old engine.new }
-{
-    if is_star(token) {
-        return Ok(true);
-    }
-    put_back(engine, token)?;
-    Ok(false)
-}
-
-// Whether a token is a star.
-fn is_star(token: Token) -> bool
-    ensures { (texts : Table) → result ≡ spec_is_star (token_at texts token) }
-{
-    match token {
-        Token::Char(code, found) => code == STAR && found == category::OTHER,
-        _ => false,
-    }
+    engine.read_sign(files, tell, STAR)
 }
 
 // The key of the name that comes next, if it is to be defined.
