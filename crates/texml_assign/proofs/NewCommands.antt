@@ -1,5 +1,5 @@
 -- New commands have one answer, and leave no more to be read.
-use Rattle.std.proofs.Common.{◌≡◌, ◌≤◌, ◌<◌, ◌+◌, ℕ, zero, suc, Bool, true, false, not, if◌then◌else◌, List, [], ◌∷◌, ◌++◌, length, drop, get_or, Option, Some, None, Result, Ok, Err, refl, sym, ap, subst, ◌∙◌, arith}
+use Rattle.std.proofs.Common.{◌≡◌, ◌≤◌, ◌<◌, ◌+◌, ℕ, zero, suc, Bool, true, false, not, if◌then◌else◌, List, [], ◌∷◌, ◌++◌, length, drop, get_or, Option, Some, None, refl, sym, ap, subst, ◌∙◌, arith}
 use Rattle.std.specs.Option.{option_map, is_some, IfSome}
 use Rattle.std.proofs.lemmas.List.{map-append, at_drop_more, drop_all}
 use Rattle.std.specs.List.{All}
@@ -14,32 +14,24 @@ use Rattle.texml_token.specs.Numbers.{Table, Extends, token_at, tokens_at, piece
 use Rattle.texml_token.proofs.Translation.{tokens_kept, tokens_more}
 use Rattle.texml_scope.specs.Values.{Macro as MacroBy, map_macro}
 use Rattle.texml_scope.specs.Numbers.{name_text, MacroWithin}
-use Rattle.texml_expand.specs.declared.stop.Stop.{Stop}
-use Rattle.texml_expand.specs.declared.stop.Stop.TheVariants as stop
-use Rattle.texml_expand.specs.Held.{ok_at}
 use Rattle.texml_expand.proofs.Least.{choose_yes, choose_no}
 use Rattle.texml_token.specs.declared.fault_code.TheConstants.{UNDEFINED, NAME_TAKEN}
 use Rattle.texml_scope.specs.Texts.{Key, Meaning}
 use Rattle.texml_scope.specs.declared.values.MeaningOf.TheVariants.{Macro}
-use Rattle.texml_expand.specs.Rest.{Tok}
 use Rattle.texml_expand.specs.Next.{Taken}
-use Rattle.texml_expand.specs.State.{State, room, nothing, Reading, chain, IsDecided, give, fail, change}
-use Rattle.texml_expand.specs.Contract.{Lower, Silent}
-use Rattle.texml_expand.specs.Expand.{back, spelling}
+use Rattle.texml_expand.specs.State.{State, room, Reading, chain, give, fail, change}
+use Rattle.texml_expand.specs.Expand.{spelling}
 use Rattle.texml_expand.specs.Arguments.{past_space, past_spaces, is_sign, no_sign, sign_or_back, sign, open_bracket, behind_bracket, read_argument, read_optional}
 use Rattle.texml_expand.specs.Arguments.{is_space as is_space_there, behind_spaces as behind_spaces_there}
 use Rattle.texml_expand.proofs.Calling.{sign_leads, sign_decided}
-use Rattle.texml_expand.proofs.Falls.{Leads, leads_chain, leads_after, leads_weaker, lower_none, lower_then, count}
-use Rattle.texml_expand.proofs.Order.{grows_refl}
-use Rattle.texml_expand.proofs.Items.{size-cons}
+use Rattle.texml_expand.proofs.Falls.{lower_none, count}
 use Rattle.texml_assign.specs.declared.table.Naming.{Naming}
 use Rattle.texml_assign.specs.declared.table.Naming.TheVariants.{New, Renew, Provide}
-use Rattle.texml_assign.specs.Loop.{On, Over, loops, looped, turned}
 use Rattle.texml_assign.specs.Meaning.{means}
-use Rattle.texml_assign.specs.Operands.{token_or_end, key_of, is_space, spaces_loop, behind_spaces}
+use Rattle.texml_assign.specs.Operands.{key_of}
 use Rattle.texml_assign.specs.Define.{body_said}
 use Rattle.texml_assign.specs.NewCommand.{starred, only, without_spaces, only_token, is_undefined, is_free, defines, keep_if, defines_now, key_to_define, key_of_name, command_key, needed_number, only_digit, number_said, parameter_count, fitting, first_default, argument_body, numbered, command_of, command_macro, assign_some, new_command}
-use Rattle.texml_assign.proofs.Readings.{IsUnlimited, unlimited_chain, Lawful, Sure, Plain, mono_chain, settles_chain, falls_then, lawful_plain, lawful_then, plain_by, plain_give, plain_fail, plain_change, plain_if, plain_then}
+use Rattle.texml_assign.proofs.Readings.{IsUnlimited, unlimited_chain, Lawful, Plain, lawful_plain, lawful_then, plain_by, plain_give, plain_fail, plain_change, plain_if, plain_then}
 use Rattle.texml_assign.proofs.Parts.{plain_take, plain_by_least, plain_key_of, plain_body_said, plain_assign}
 
 -- What the engine reads

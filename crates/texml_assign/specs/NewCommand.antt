@@ -1,7 +1,7 @@
 -- New commands (Lamport's LaTeX manual, section C.8): names whose macros are given by the number of their parameters.
-use Rattle.std.specs.Prelude.{ℕ, zero, suc, ◌==◌, ◌&&◌, not, Bool, true, false, if◌then◌else◌, List, [], ◌∷◌, ◌++◌, Option, None, Some}
+use Rattle.std.specs.Prelude.{ℕ, zero, suc, ◌==◌, not, Bool, true, false, if◌then◌else◌, List, [], ◌∷◌, ◌++◌, Option, None, Some}
 use Rattle.std.specs.Option.{option_and_then}
-use Rattle.texml_token.specs.Token.{Token, Char, has_category}
+use Rattle.texml_token.specs.Token.{Token, has_category}
 use Rattle.texml_token.specs.declared.pieces.PieceOf.{PieceOf}
 use Rattle.texml_token.specs.declared.pieces.PieceOf.TheVariants.{Slot}
 use Rattle.texml_token.specs.declared.category.TheConstants.{SPACE}
@@ -10,7 +10,7 @@ use Rattle.texml_scope.specs.Texts.{Key, Meaning}
 use Rattle.texml_scope.specs.Values.{Macro as MacroBy}
 use Rattle.texml_scope.specs.declared.builtins.TheConstants.{RELAX}
 use Rattle.texml_scope.specs.declared.values.MeaningOf.TheVariants.{Undefined, Builtin, Macro}
-use Rattle.texml_expand.specs.State.{State, Reading, ◌>>=◌, ◌>>◌, give, fail, change}
+use Rattle.texml_expand.specs.State.{State, Reading, ◌>>=◌, give, fail, change}
 use Rattle.texml_expand.specs.Expand.{spelling}
 use Rattle.texml_expand.specs.Arguments.{sign, read_argument, read_optional}
 use Rattle.texml_assign.specs.declared.table.Naming.{Naming}

@@ -54,9 +54,10 @@ enum Behind {
 ///
 /// `Tex` with the faults of the command: fault 4 at the end of what is to be read, fault 21 where a prefix stands before
 /// something else than an assignment, fault 18 where a name is missing, faults 14 and 22 in a definition, faults 16 and 17
-/// where no group of the kind can end, and those of `Engine::fetch` behind a prefix. `Limit` where one expansion too many
-/// would begin there. `TellFailed` only where the count of faults of `tell` rose in this call, `NoMemory` where memory was
-/// refused; the records told until then are the first of those that would be told. And the stop that is kept.
+/// where no group of the kind can end, of a new command faults 1, 2, 14 and 23, and those of `Engine::fetch` behind a prefix.
+/// `Limit` where one expansion too many would begin there. `TellFailed` only where the count of faults of `tell` rose in this
+/// call, `NoMemory` where memory was refused; the records told until then are the first of those that would be told. And the
+/// stop that is kept.
 pub fn execute<F: Files, T: Teller>(
     alloc: Global,
     engine: &mut Engine,
