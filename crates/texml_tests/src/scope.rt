@@ -31,6 +31,22 @@ fn global_value_stays(rt: HostRuntime) -> Result<(), Fail> {
     Ok(())
 }
 
+#[test]
+fn values_under_a_global_one_are_not_put_back(rt: HostRuntime) -> Result<(), Fail> {
+    let mut steps = Steps::new();
+    let mut scope = Scope::new(rt.alloc());
+    let key = Key::Count(1);
+    scope.begin(GroupKind::Brace)?;
+    scope.set(key, Value::Number(2), &mut steps)?;
+    scope.set_global(key, Value::Number(3), &mut steps)?;
+    scope.set(key, Value::Number(4), &mut steps)?;
+    let mut ending = Steps::new();
+    scope.end(GroupKind::Brace, &mut ending)?;
+    assert_eq!(rt; scope.number(&key), Some(3));
+    assert_eq!(rt; ending.taken() <= 3, true);
+    Ok(())
+}
+
 // Where each group had a copied table, there would be 2 * 10^9 entries.
 #[test]
 fn many_groups_over_many_keys(rt: HostRuntime) -> Result<(), Fail> {
