@@ -1,4 +1,11 @@
+//! Lines and their tokens.
+
+ghost use Rattle.std.specs.Prelude.{◌≤◌, length};
+ghost use Rattle.texml_token.specs.Numbers.{TokenWithin};
+
+use std::alloc::Global;
 use std::test::Fail;
+use texml_token::{Line, Names, Token};
 use texml_mouth::*;
 
 // The categories that a run starts with.
