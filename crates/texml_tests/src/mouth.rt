@@ -5,8 +5,8 @@ ghost use Rattle.texml_token.specs.Numbers.{TokenWithin};
 
 use std::alloc::Global;
 use std::test::Fail;
-use texml_token::{Line, Names, Token};
 use texml_mouth::*;
+use texml_token::{Line, Names, Token};
 
 // The categories that a run starts with.
 struct Initial;
