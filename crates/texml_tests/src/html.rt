@@ -94,7 +94,7 @@ fn lines(alloc: Global) -> Result<ElementLines, AllocError>
     Ok(lines)
 }
 
-#[tactic(auto, using(crate::proofs::Small::page_is_model))]
+#[tactic(auto, using(crate::proofs::Tables::page_is_model))]
 fn small_model(alloc: Global) -> Result<Content, AllocError> {
     let elements = Elements {
         lines: lines(alloc)?,

@@ -107,7 +107,7 @@ fn lines(alloc: Global) -> Result<ElementLines, AllocError>
     Ok(lines)
 }
 
-#[tactic(auto, using(crate::proofs::Small::is_model))]
+#[tactic(auto, using(crate::proofs::Tables::is_model))]
 pub fn small_model(alloc: Global) -> Result<Content, AllocError> {
     let elements = Elements {
         lines: lines(alloc)?,
