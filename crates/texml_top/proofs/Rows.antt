@@ -8,31 +8,32 @@ use Rattle.texml_top.specs.Digest.{digests}
 use Rattle.texml_top.specs.Request.{asked}
 use Rattle.texml_top.specs.declared.request.Command.TheVariants.{Convert, Expand}
 use Rattle.texml_top.specs.Outcome.{first_state, IsOutcomeFrom, IsOutcome}
-use Rattle.texml_top.specs.declared.material.Material.{Material}
-use Rattle.texml_top.specs.declared.material.Material.TheVariants.{Char, Par}
+use Rattle.texml_tree.specs.declared.ops.Op.{Op}
+use Rattle.texml_tree.specs.declared.ops.Op.TheVariants.{CloseIf, Space, Text}
+use Rattle.texml_top.specs.declared.table.TheConstants.{P}
 use Rattle.texml_top.specs.declared.status.Status.TheVariants as status
 
-read : ℕ → List ℕ → ℕ → Answer (List Material)
+read : ℕ → List ℕ → ℕ → Answer (List Op)
 read limit text n = digests [] (first_state (codes "f") limit text) n
 
 -- what digestion put into the document
-document : Answer (List Material) → Option (List Material)
-document (Done material s gains) = Some material
+document : Answer (List Op) → Option (List Op)
+document (Done ops s gains) = Some ops
 document (Ended e gains) = None
 document (Unfinished gains) = None
 
 -- a macro is defined and expanded; blanks behind a name are skipped
-defined : document (read 9 (codes "\\def\\a{x}\\a") 9) ≡ Some (Char 120 ∷ [])
+defined : document (read 9 (codes "\\def\\a{x}\\a") 9) ≡ Some (Text (codes "x") ∷ [])
 unfolding read document lib.Utf8.encode
 defined = refl
 
 -- the old meaning is back behind a group
-undone : document (read 9 (codes "\\def\\a{x}{\\def\\a{y}\\a}\\a") 9) ≡ Some (Char 121 ∷ Char 120 ∷ [])
+undone : document (read 9 (codes "\\def\\a{x}{\\def\\a{y}\\a}\\a") 9) ≡ Some (Text (codes "y") ∷ Text (codes "x") ∷ [])
 unfolding read document lib.Utf8.encode
 undone = refl
 
 -- the end of a line is a space, and a blank line ends a paragraph
-blank_line : document (read 9 (codes "a\n\nb") 9) ≡ Some (Char 97 ∷ Char 32 ∷ Par ∷ Char 98 ∷ Char 32 ∷ [])
+blank_line : document (read 9 (codes "a\n\nb") 9) ≡ Some (Text (codes "a") ∷ Space ∷ CloseIf P ∷ Text (codes "b") ∷ Space ∷ [])
 unfolding read document lib.Utf8.encode
 blank_line = refl
 

@@ -1,6 +1,7 @@
 // Digests what an engine fetches: what it puts into the document.
-ghost use Rattle.std.specs.Prelude.{◌≡◌, ◌++◌, [], length, None, OnOk, option_to_list};
-ghost use Rattle.std.specs.Char.{IsScalar};
+ghost use Rattle.std.specs.Prelude.{◌≡◌, ◌++◌, [], length, None, IfOk, OnOk, option_to_list};
+ghost use Rattle.std.specs.Char.{IsScalar, encode_utf8};
+ghost use Rattle.texml_tree.specs.declared.ops.Op.TheVariants.{Text};
 ghost use Rattle.texml_token.specs.Numbers.{token_at, TokenWithin};
 ghost use Rattle.texml_scope.specs.Numbers.{meaning_at, MeaningWithin};
 ghost use Rattle.texml_expand.specs.Contract.{Silent, outside, stop_after};
@@ -12,14 +13,15 @@ ghost use Rattle.texml_assign.specs.Loop.{loops};
 ghost use Rattle.texml_assign.specs.declared.executing.Executed.TheVariants.{NotMine};
 ghost use Rattle.texml_top.specs.Digest.{digestion, digest_left as spec_digest_left, digest_meaning as spec_digest_meaning, digest_builtin as spec_digest_builtin, digest_char as spec_digest_char, digest_token as spec_digest_token};
 
-use crate::material::Material;
+use crate::table::P;
 use std::alloc::{AllocError, Global};
 use texml_assign::{Executed, begin_group, end_group, execute, meaning_of};
 use texml_base::Files;
 use texml_expand::{Engine, Stop};
 use texml_scope::builtins::PAR;
 use texml_scope::{GroupKind, Meaning};
-use texml_token::{Token, category, fault_code};
+use texml_token::{Bytes, Token, category, fault_code};
+use texml_tree::{Op, Ops};
 use texml_watch::Teller;
 
 /// What all that an engine gives puts into the document, up to the end of what is to be read.
@@ -32,14 +34,14 @@ pub fn digest<F: Files, T: Teller>(
     engine: &mut Engine,
     files: &mut F,
     tell: &mut T,
-) -> Result<Vec<Material>, Stop>
+) -> Result<Ops, Stop>
     requires running { engine.old.stop ≡ None }
     requires sound { Sound engine.old }
-    ensures does { Does (hears T.wanting T.heard) (hears_part T.wanting T.part) (loops digestion []) (ok_at (λ v. v.items) result) engine.old engine.new
+    ensures does { Does (hears T.wanting T.heard) (hears_part T.wanting T.part) (loops digestion []) (ok_at (λ ops. ops) result) engine.old engine.new
         (outside (F.faults files.old) (T.faults tell.old)) (outside (F.faults files.new) (T.faults tell.new)) tell.old tell.new }
     ensures files { files.new ≡ files.old }
 {
-    let mut seen = Vec::new(alloc);
+    let mut seen = Ops::new(alloc);
     'rounds: loop {
         let begun = engine.begun();
         'tokens: loop {
@@ -47,8 +49,8 @@ pub fn digest<F: Files, T: Teller>(
                 Some(token) => token,
                 None => return Ok(seen),
             };
-            let material = digest_token(alloc, engine, files, tell, token)?;
-            match push_some(&mut seen, material) {
+            let op = digest_token(alloc, engine, files, tell, token)?;
+            match push_some(&mut seen, op) {
                 Ok(()) => {}
                 Err(_) => return Err(engine.no_memory()),
             }
@@ -60,13 +62,13 @@ pub fn digest<F: Files, T: Teller>(
 }
 
 // Puts something more into the document, if there is something.
-fn push_some(seen: &mut Vec<Material>, material: Option<Material>) -> Result<(), AllocError>
-    ensures { OnOk result (seen.new.items ≡ seen.old.items ++ option_to_list material) }
+fn push_some(seen: &mut Ops, op: Option<Op>) -> Result<(), AllocError>
+    ensures { OnOk result (seen.new ≡ seen.old ++ option_to_list op) }
 {
-    match material {
+    match op {
         None => Ok(()),
-        Some(material) => {
-            seen.push(material)?;
+        Some(op) => {
+            seen.push(op)?;
             Ok(())
         }
     }
@@ -79,7 +81,7 @@ fn digest_token<F: Files, T: Teller>(
     files: &mut F,
     tell: &mut T,
     token: Token,
-) -> Result<Option<Material>, Stop>
+) -> Result<Option<Op>, Stop>
     requires running { engine.old.stop ≡ None }
     requires sound { Sound engine.old }
     requires token { TokenWithin (length engine.old.names) token }
@@ -90,12 +92,12 @@ fn digest_token<F: Files, T: Teller>(
     let done = execute(alloc, engine, files, tell, token)?;
     match done {
         Executed::Yes => Ok(None),
-        Executed::NotMine => digest_left(engine, token),
+        Executed::NotMine => digest_left(alloc, engine, token),
     }
 }
 
 // Does what a token asks for that wasn't executed.
-fn digest_left(engine: &mut Engine, token: Token) -> Result<Option<Material>, Stop>
+fn digest_left(alloc: Global, engine: &mut Engine, token: Token) -> Result<Option<Op>, Stop>
     requires running { engine.old.stop ≡ None }
     requires sound { Sound engine.old }
     requires token { TokenWithin (length engine.old.names) token }
@@ -108,11 +110,11 @@ fn digest_left(engine: &mut Engine, token: Token) -> Result<Option<Material>, St
         Ok(meaning) => meaning,
         Err(_) => return Err(engine.no_memory()),
     };
-    digest_meaning(engine, &meaning)
+    digest_meaning(alloc, engine, &meaning)
 }
 
 // Does what a meaning asks for that is no command.
-fn digest_meaning(engine: &mut Engine, meaning: &Meaning) -> Result<Option<Material>, Stop>
+fn digest_meaning(alloc: Global, engine: &mut Engine, meaning: &Meaning) -> Result<Option<Op>, Stop>
     requires running { engine.old.stop ≡ None }
     requires sound { Sound engine.old }
     requires meaning { MeaningWithin (length engine.old.names) meaning.now }
@@ -122,14 +124,19 @@ fn digest_meaning(engine: &mut Engine, meaning: &Meaning) -> Result<Option<Mater
     ensures advances { Advances engine.old engine.new }
 {
     match meaning {
-        Meaning::Char(code, category) => digest_char(engine, *code, *category),
+        Meaning::Char(code, category) => digest_char(alloc, engine, *code, *category),
         Meaning::Builtin(place) => digest_builtin(engine, *place),
         _ => Err(engine.bare_fault(fault_code::MISPLACED)),
     }
 }
 
 // Does what a character asks for.
-fn digest_char(engine: &mut Engine, code: u32, category: u8) -> Result<Option<Material>, Stop>
+fn digest_char(
+    alloc: Global,
+    engine: &mut Engine,
+    code: u32,
+    category: u8,
+) -> Result<Option<Op>, Stop>
     requires running { engine.old.stop ≡ None }
     requires sound { Sound engine.old }
     requires scalar { IsScalar code }
@@ -139,9 +146,11 @@ fn digest_char(engine: &mut Engine, code: u32, category: u8) -> Result<Option<Ma
     ensures advances { Advances engine.old engine.new }
 {
     match category {
-        category::SPACE | category::LETTER | category::OTHER => {
-            Ok(Some(Material::Char(char_of(code))))
-        }
+        category::SPACE => Ok(Some(Op::Space)),
+        category::LETTER | category::OTHER => match text_of(alloc, code) {
+            Ok(text) => Ok(Some(text)),
+            Err(_) => Err(engine.no_memory()),
+        },
         category::BEGIN_GROUP => {
             begin_group(engine, GroupKind::Brace)?;
             Ok(None)
@@ -155,7 +164,7 @@ fn digest_char(engine: &mut Engine, code: u32, category: u8) -> Result<Option<Ma
 }
 
 // Does what a builtin that is no command asks for, by its place.
-fn digest_builtin(engine: &mut Engine, place: u16) -> Result<Option<Material>, Stop>
+fn digest_builtin(engine: &mut Engine, place: u16) -> Result<Option<Op>, Stop>
     requires running { engine.old.stop ≡ None }
     requires sound { Sound engine.old }
     ensures digests { Silent (spec_digest_builtin place (state_of engine.old)) (ok_at option_to_list result) (state_of engine.new) }
@@ -164,18 +173,22 @@ fn digest_builtin(engine: &mut Engine, place: u16) -> Result<Option<Material>, S
     ensures advances { Advances engine.old engine.new }
 {
     match place {
-        PAR => Ok(Some(Material::Par)),
+        PAR => Ok(Some(Op::CloseIf(P))),
         _ => Err(engine.bare_fault(fault_code::MISPLACED)),
     }
 }
 
-// The character of a code.
-fn char_of(code: u32) -> char
+// The text of a character.
+fn text_of(alloc: Global, code: u32) -> Result<Op, AllocError>
     requires { IsScalar code }
-    ensures { result ≡ code }
+    ensures { IfOk result (λ op. op ≡ Text (encode_utf8 code)) }
 {
     match char::from_u32(code) {
-        Some(c) => c,
         None => unreachable!(),
+        Some(character) => {
+            let mut buffer = [0; 4];
+            let bytes = Bytes::from_slice(alloc, character.encode_utf8(&mut buffer).as_bytes())?;
+            Ok(Op::Text(bytes))
+        }
     }
 }

@@ -4,6 +4,7 @@ ghost use Rattle.std.specs.Prelude.{◌≡◌};
 use std::alloc::{AllocError, Global};
 use texml_expand::Stop;
 use texml_token::{Bytes, Fault};
+use texml_tree::ModelFault;
 
 /// What a run ends with.
 #[derive(Debug, Drop)]
@@ -14,6 +15,8 @@ pub enum Status {
     Usage(u8),
     /// The first fault of the text.
     Tex(Fault),
+    /// The first thing that the table of elements doesn't allow.
+    Model(ModelFault),
     /// So many expansions were begun, the limit, and another would begin.
     Limit(u64),
     /// The files failed.

@@ -8,7 +8,7 @@ ghost use Rattle.texml_top.specs.Run.{EndsAs, MayEnd, FilesBlamed, SinkBlamed, F
 ghost use Rattle.texml_top.specs.declared.request.Command.TheVariants.{Convert, Expand};
 
 use crate::digest::digest;
-use crate::page::page_of;
+use crate::document::write_page;
 use crate::request::{Command, read_request};
 use crate::start::start_engine;
 use crate::status::Status;
@@ -108,17 +108,9 @@ fn convert<F: Files, S: Sink>(
     ensures page { FromState Convert (state_of engine.old) (WritesPage Convert result) }
     ensures files { files.new ≡ files.old }
 {
-    let material = match digest(alloc, engine, files, &mut Nobody) {
-        Ok(material) => material,
-        Err(stop) => return Status::from(stop),
-    };
-    let page = match page_of(alloc, &material) {
-        Ok(page) => page,
-        Err(_) => return Status::NoMemory,
-    };
-    match out.write(page.as_bytes()) {
-        Ok(()) => Status::Done,
-        Err(_) => Status::WriteFault,
+    match digest(alloc, engine, files, &mut Nobody) {
+        Ok(ops) => write_page(alloc, &ops, out),
+        Err(stop) => Status::from(stop),
     }
 }
 

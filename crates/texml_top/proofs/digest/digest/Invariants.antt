@@ -11,7 +11,7 @@ use Rattle.texml_top.proofs.digest.digest.Given as goal
 abbrev pub invariant-rounds : goal.invariant-rounds
 invariant-rounds g l = record {
   going : Goes (hears g.T.Teller.wanting g.T.Teller.heard) (hears_part g.T.Teller.wanting g.T.Teller.part) digestion digestion_laws [] l.fn.engine (outside (g.F.Files.faults l.fn.files) (g.T.Teller.faults l.fn.tell)) l.fn.tell
-      l.seen.items l.engine (outside (g.F.Files.faults l.files) (g.T.Teller.faults l.tell)) l.tell;
+      l.seen l.engine (outside (g.F.Files.faults l.files) (g.T.Teller.faults l.tell)) l.tell;
   files : l.files ≡ l.fn.files;
 }
 
@@ -21,7 +21,7 @@ decreases-rounds g l = l.engine.limit - l.engine.begun
 abbrev pub invariant-tokens : goal.invariant-tokens
 invariant-tokens g l = record {
   going : Goes (hears g.T.Teller.wanting g.T.Teller.heard) (hears_part g.T.Teller.wanting g.T.Teller.part) digestion digestion_laws [] l.fn.engine (outside (g.F.Files.faults l.fn.files) (g.T.Teller.faults l.fn.tell)) l.fn.tell
-      l.seen.items l.engine (outside (g.F.Files.faults l.files) (g.T.Teller.faults l.tell)) l.tell;
+      l.seen l.engine (outside (g.F.Files.faults l.files) (g.T.Teller.faults l.tell)) l.tell;
   files : l.files ≡ l.fn.files;
   begun : l.engine.begun ≡ l.begun;
   same : l.begun ≡ l.initial.engine.begun;
