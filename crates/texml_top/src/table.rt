@@ -3,7 +3,7 @@
 ghost use Rattle.std.specs.Prelude.{◌≡◌, ◌++◌, map, IfOk, OnOk};
 ghost use Rattle.std.specs.Option.{option_map};
 ghost use Rattle.std.specs.List.{flat_map};
-ghost use Rattle.texml_top.specs.Table.{line_of, elements as spec_elements};
+ghost use Rattle.texml_top.specs.Table.{line_of, table_of, elements as spec_elements};
 
 use std::alloc::{AllocError, Global};
 use texml_token::{ByteList, Bytes};
@@ -341,9 +341,16 @@ pub const ROWS: [Row; 40] = [
 pub(crate) fn elements(alloc: Global) -> Result<Elements, AllocError>
     ensures { IfOk result (λ elements. elements ≡ spec_elements) }
 {
+    table(alloc, &ROWS, &ATTRIBUTES)
+}
+
+// The table of these rows and attributes.
+fn table(alloc: Global, rows: &[Row], attributes: &[&'static [u8]]) -> Result<Elements, AllocError>
+    ensures { IfOk result (λ elements. elements ≡ table_of rows.now attributes.now) }
+{
     Ok(Elements {
-        lines: lines(alloc, &ROWS)?,
-        attributes: texts(alloc, &ATTRIBUTES)?,
+        lines: lines(alloc, rows)?,
+        attributes: texts(alloc, attributes)?,
     })
 }
 
