@@ -82,15 +82,15 @@ page_late status.ReadFault page old new h = absurd h
 page_late status.WriteFault page old new h = tt
 page_late status.NoMemory page old new h = h
 
-pub page_files : (s : Status) (page : Result (List ℕ) ModelFault) (old new : Ink) (n : ℕ) → EndsPage s page old new → FilesBlamed s n n
-page_files status.Done page old new n h = refl
-page_files (status.Usage k) page old new n h = refl
-page_files (status.Tex f) page old new n h = refl
-page_files (status.Model f) page old new n h = refl
-page_files (status.Limit m) page old new n h = refl
-page_files status.ReadFault page old new n h = absurd h
-page_files status.WriteFault page old new n h = refl
-page_files status.NoMemory page old new n h = refl
+pub page_files : (s : Status) (page : Result (List ℕ) ModelFault) (old new : Ink) (m n : ℕ) → n ≡ m → EndsPage s page old new → FilesBlamed s m n
+page_files status.Done page old new m n e h = e
+page_files (status.Usage k) page old new m n e h = e
+page_files (status.Tex f) page old new m n e h = e
+page_files (status.Model f) page old new m n e h = e
+page_files (status.Limit l) page old new m n e h = e
+page_files status.ReadFault page old new m n e h = absurd h
+page_files status.WriteFault page old new m n e h = e
+page_files status.NoMemory page old new m n e h = e
 
 pub page_limit : (s : Status) (page : Result (List ℕ) ModelFault) (old new : Ink) (limit : ℕ) → EndsPage s page old new → LimitIs limit s
 page_limit status.Done page old new limit h = tt

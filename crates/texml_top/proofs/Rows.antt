@@ -6,7 +6,7 @@ use Rattle.texml_watch.specs.declared.record.Record.{Record}
 use Rattle.texml_expand.specs.State.{Answer, Done, Ended, Unfinished, Tex, Limit, fault_at, added}
 use Rattle.texml_top.specs.Digest.{digests}
 use Rattle.texml_top.specs.Request.{asked}
-use Rattle.texml_top.specs.declared.request.Command.TheVariants.{Convert, Expand}
+use Rattle.texml_top.specs.declared.request.Command.TheVariants.{Expand}
 use Rattle.texml_top.specs.Outcome.{first_state, IsOutcomeFrom, IsOutcome}
 use Rattle.texml_tree.specs.declared.ops.Op.{Op}
 use Rattle.texml_tree.specs.declared.ops.Op.TheVariants.{CloseIf, Space, Text}
@@ -41,15 +41,6 @@ blank_line = refl
 no_group : read 9 (codes "}") 9 ≡ Ended (Tex (fault_at NO_GROUP [] (record { file = codes "f"; line = 0 }))) (record { records = [] })
 unfolding read lib.Utf8.encode
 no_group = refl
-
--- the page of a macro
-page_of_macro : IsOutcomeFrom Convert (first_state (codes "f") 9 (codes "\\def\\a{x}\\a")) (record {
-  status = status.Done;
-  bytes = codes "<!DOCTYPE html>\n<html><head><meta charset=\"utf-8\"><title>untitled</title></head><body><main id=\"x0\"><p>x</p></main></body></html>\n";
-  records = record { token = codes "\\a"; put = codes "x"; file = [] } ∷ [];
-})
-unfolding read lib.Utf8.encode
-page_of_macro = record { answer = read 9 (codes "\\def\\a{x}\\a") 9; given = record { depth = 9; is = refl; decided = tt }; is = refl }
 
 -- the trace of a macro that gives itself back, up to the limit
 trace_to_limit : IsOutcomeFrom Expand (first_state (codes "f") 2 (codes "\\def\\x{\\x}\\x")) (record {

@@ -42,7 +42,6 @@ pub fn write_page<S: Sink>(alloc: Global, ops: &Ops, out: &mut S) -> Status
 }
 
 // The content model of the table.
-#[tactic(auto, using(crate::proofs::Tables::is_model))]
 fn model(alloc: Global) -> Result<Content, AllocError>
     ensures { IfOk result (λ content. content ≡ spec_elements) }
 {

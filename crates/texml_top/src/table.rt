@@ -2,58 +2,25 @@
 
 ghost use Rattle.std.specs.Prelude.{◌≡◌, ◌++◌, map, IfOk, OnOk};
 ghost use Rattle.std.specs.Option.{option_map};
-ghost use Rattle.std.specs.List.{flat_map};
-ghost use Rattle.texml_top.specs.Table.{line_of, table_of, elements as spec_elements};
+ghost use Rattle.texml_top.specs.Table.{class_names, row, front, sections, paragraphs, floats, displays, words, elements as spec_elements};
 
 use std::alloc::{AllocError, Global};
 use texml_token::{ByteList, Bytes};
 use texml_tree::{Elem, ElementLine, ElementLines, Elements, Flags};
 
-/// A line of the table: a name, a tag, a class if there is one, flags, what the element may hold, and its attributes. What
-/// it may hold is a list of classes, each a list of names.
-pub type Row = (
-    &'static [u8],
-    &'static [u8],
-    Option<&'static [u8]>,
-    Flags,
-    &'static [&'static [&'static [u8]]],
-    &'static [&'static [u8]],
-);
-
 /// The element of a paragraph.
 pub const P: Elem = Elem(11);
 
-const INLINE: &[&[u8]] = &[
-    b"math",
-    b"emph",
-    b"strong",
-    b"code",
-    b"link",
-    b"ref",
-    b"note",
-    b"graphics",
-    b"break",
-    b"num",
-];
-
-const BLOCK: &[&[u8]] = &[
-    b"p",
-    b"list",
-    b"olist",
-    b"dlist",
-    b"quote",
-    b"verbatim",
-    b"figure",
-    b"float",
-    b"tabular",
-    b"equation",
-    b"display",
-    b"toc",
-    b"bibliography",
-];
+// A class of elements that many others hold.
+#[derive(Clone, Copy)]
+pub enum Class {
+    Nothing,
+    Inline,
+    Block,
+}
 
 // Nothing.
-const NONE: Flags = Flags {
+pub const NONE: Flags = Flags {
     text: false,
     block: false,
     opens: false,
@@ -64,7 +31,7 @@ const NONE: Flags = Flags {
 };
 
 // Texts, trimmed.
-const LINE: Flags = Flags {
+pub const LINE: Flags = Flags {
     text: true,
     block: true,
     opens: false,
@@ -75,7 +42,7 @@ const LINE: Flags = Flags {
 };
 
 // An id.
-const HOLDER: Flags = Flags {
+pub const HOLDER: Flags = Flags {
     text: false,
     block: false,
     opens: false,
@@ -86,7 +53,7 @@ const HOLDER: Flags = Flags {
 };
 
 // An id, closed by itself, and named in the contents.
-const PART: Flags = Flags {
+pub const PART: Flags = Flags {
     text: false,
     block: false,
     opens: false,
@@ -97,7 +64,7 @@ const PART: Flags = Flags {
 };
 
 // Texts, trimmed, opened and closed by itself.
-const PARAGRAPH: Flags = Flags {
+pub const PARAGRAPH: Flags = Flags {
     text: true,
     block: true,
     opens: true,
@@ -108,7 +75,7 @@ const PARAGRAPH: Flags = Flags {
 };
 
 // An id, closed by itself.
-const ITEM: Flags = Flags {
+pub const ITEM: Flags = Flags {
     text: false,
     block: false,
     opens: false,
@@ -119,7 +86,7 @@ const ITEM: Flags = Flags {
 };
 
 // Texts.
-const WORDS: Flags = Flags {
+pub const WORDS: Flags = Flags {
     text: true,
     block: false,
     opens: false,
@@ -130,7 +97,7 @@ const WORDS: Flags = Flags {
 };
 
 // No end tag.
-const VOID: Flags = Flags {
+pub const VOID: Flags = Flags {
     text: false,
     block: false,
     opens: false,
@@ -141,7 +108,7 @@ const VOID: Flags = Flags {
 };
 
 // Opened and closed by itself.
-const ROW: Flags = Flags {
+pub const ROW: Flags = Flags {
     text: false,
     block: false,
     opens: true,
@@ -152,7 +119,7 @@ const ROW: Flags = Flags {
 };
 
 // Texts, trimmed, and an id.
-const NUMBERED: Flags = Flags {
+pub const NUMBERED: Flags = Flags {
     text: true,
     block: true,
     opens: false,
@@ -163,7 +130,7 @@ const NUMBERED: Flags = Flags {
 };
 
 // Texts, trimmed, an id, closed by itself.
-const ENTRY: Flags = Flags {
+pub const ENTRY: Flags = Flags {
     text: true,
     block: true,
     opens: false,
@@ -174,7 +141,7 @@ const ENTRY: Flags = Flags {
 };
 
 // Texts and an id.
-const NOTE: Flags = Flags {
+pub const NOTE: Flags = Flags {
     text: true,
     block: false,
     opens: false,
@@ -184,205 +151,475 @@ const NOTE: Flags = Flags {
     void: false,
 };
 
-/// The names of all attributes, in the order of their first use.
-pub const ATTRIBUTES: [&[u8]; 4] = [b"number", b"src", b"colspan", b"href"];
-
-/// The lines of the table, in order.
-pub const ROWS: [Row; 40] = [
-    (
-        b"document",
-        b"main",
-        None,
-        HOLDER,
-        &[
-            &[
-                b"title",
-                b"author",
-                b"date",
-                b"abstract",
-                b"section",
-                b"subsection",
-                b"subsubsection",
-            ],
-            BLOCK,
-        ],
-        &[],
-    ),
-    (b"title", b"h1", None, LINE, &[INLINE], &[]),
-    (b"author", b"p", Some(b"author"), LINE, &[INLINE], &[]),
-    (b"date", b"p", Some(b"date"), LINE, &[INLINE], &[]),
-    (b"abstract", b"div", Some(b"abstract"), NONE, &[BLOCK], &[]),
-    (
-        b"section",
-        b"section",
-        None,
-        PART,
-        &[&[b"heading", b"subsection", b"subsubsection"], BLOCK],
-        &[b"number"],
-    ),
-    (
-        b"subsection",
-        b"section",
-        None,
-        PART,
-        &[&[b"subheading", b"subsubsection"], BLOCK],
-        &[b"number"],
-    ),
-    (
-        b"subsubsection",
-        b"section",
-        None,
-        PART,
-        &[&[b"subsubheading"], BLOCK],
-        &[b"number"],
-    ),
-    (b"heading", b"h2", None, LINE, &[INLINE], &[]),
-    (b"subheading", b"h3", None, LINE, &[INLINE], &[]),
-    (b"subsubheading", b"h4", None, LINE, &[INLINE], &[]),
-    (b"p", b"p", None, PARAGRAPH, &[INLINE], &[]),
-    (b"list", b"ul", None, NONE, &[&[b"item"]], &[]),
-    (b"olist", b"ol", None, NONE, &[&[b"item"]], &[]),
-    (
-        b"dlist",
-        b"ul",
-        Some(b"description"),
-        NONE,
-        &[&[b"item"]],
-        &[],
-    ),
-    (
-        b"item",
-        b"li",
-        None,
-        ITEM,
-        &[&[b"term"], BLOCK],
-        &[b"number"],
-    ),
-    (b"term", b"b", Some(b"term"), WORDS, &[INLINE], &[]),
-    (b"quote", b"blockquote", None, NONE, &[BLOCK], &[]),
-    (b"verbatim", b"pre", None, WORDS, &[], &[]),
-    (
-        b"figure",
-        b"figure",
-        None,
-        HOLDER,
-        &[&[b"caption", b"graphics"], BLOCK],
-        &[b"number"],
-    ),
-    (
-        b"float",
-        b"figure",
-        Some(b"table"),
-        HOLDER,
-        &[&[b"caption", b"graphics"], BLOCK],
-        &[b"number"],
-    ),
-    (b"caption", b"figcaption", None, LINE, &[INLINE], &[]),
-    (b"graphics", b"img", None, VOID, &[], &[b"src"]),
-    (b"break", b"br", None, VOID, &[], &[]),
-    (b"tabular", b"table", None, NONE, &[&[b"tr"]], &[]),
-    (b"tr", b"tr", None, ROW, &[&[b"td"]], &[]),
-    (
-        b"td",
-        b"td",
-        None,
-        PARAGRAPH,
-        &[&[b"tabular", b"list", b"olist"], INLINE],
-        &[b"colspan"],
-    ),
-    (
-        b"equation",
-        b"div",
-        Some(b"equation"),
-        NUMBERED,
-        &[&[b"num"]],
-        &[b"number"],
-    ),
-    (b"display", b"div", Some(b"display"), LINE, &[], &[]),
-    (b"toc", b"ul", Some(b"toc"), NONE, &[], &[]),
-    (
-        b"bibliography",
-        b"section",
-        Some(b"bibliography"),
-        NONE,
-        &[&[b"heading", b"bibitem"]],
-        &[],
-    ),
-    (
-        b"bibitem",
-        b"p",
-        Some(b"bibitem"),
-        ENTRY,
-        &[INLINE],
-        &[b"number"],
-    ),
-    (b"math", b"span", Some(b"math"), WORDS, &[], &[]),
-    (b"emph", b"em", None, WORDS, &[INLINE], &[]),
-    (b"strong", b"strong", None, WORDS, &[INLINE], &[]),
-    (b"code", b"code", None, WORDS, &[INLINE], &[]),
-    (b"link", b"a", None, WORDS, &[INLINE], &[b"href"]),
-    (b"ref", b"a", None, NONE, &[], &[]),
-    (
-        b"note",
-        b"span",
-        Some(b"note"),
-        NOTE,
-        &[INLINE],
-        &[b"number"],
-    ),
-    (b"num", b"span", Some(b"num"), WORDS, &[], &[]),
-];
-
 /// The table.
 ///
 /// # Errors
 ///
 /// `AllocError` where there is no memory.
+#[tactic(auto, unfolding(crate::specs::Table::elements))]
 pub(crate) fn elements(alloc: Global) -> Result<Elements, AllocError>
     ensures { IfOk result (λ elements. elements ≡ spec_elements) }
 {
-    table(alloc, &ROWS, &ATTRIBUTES)
-}
-
-// The table of these rows and attributes.
-fn table(alloc: Global, rows: &[Row], attributes: &[&'static [u8]]) -> Result<Elements, AllocError>
-    ensures { IfOk result (λ elements. elements ≡ table_of rows.now attributes.now) }
-{
     Ok(Elements {
-        lines: lines(alloc, rows)?,
-        attributes: texts(alloc, attributes)?,
+        lines: lines(alloc)?,
+        attributes: texts(alloc, &[b"number", b"src", b"colspan", b"href"])?,
     })
 }
 
-// The lines of these rows.
-fn lines(alloc: Global, rows: &[Row]) -> Result<ElementLines, AllocError>
-    ensures { IfOk result (λ lines. lines ≡ map line_of rows.now) }
+// All lines, in order: an element is its place among them.
+#[tactic(auto, unfolding(crate::specs::Table::elements))]
+fn lines(alloc: Global) -> Result<ElementLines, AllocError>
+    ensures { IfOk result (λ lines. lines ≡ spec_elements.lines) }
 {
     let mut lines = ElementLines::new(alloc);
-    for row in rows {
-        lines.push(line(alloc, row)?)?;
-    }
+    push_front(alloc, &mut lines)?;
+    push_sections(alloc, &mut lines)?;
+    push_paragraphs(alloc, &mut lines)?;
+    push_floats(alloc, &mut lines)?;
+    push_displays(alloc, &mut lines)?;
+    push_words(alloc, &mut lines)?;
     Ok(lines)
 }
 
-// The line of a row.
-fn line(alloc: Global, row: &Row) -> Result<ElementLine, AllocError>
-    ensures { IfOk result (λ line. line ≡ line_of row.now) }
+// The document and its front.
+#[tactic(auto, unfolding(crate::specs::Table::front))]
+fn push_front(alloc: Global, lines: &mut ElementLines) -> Result<(), AllocError>
+    ensures { OnOk result (lines.new ≡ lines.old ++ front) }
 {
-    let (name, tag, class_name, flags, holds, attrs) = *row;
+    lines.push(line(
+        alloc,
+        b"document",
+        b"main",
+        None,
+        HOLDER,
+        &[
+            b"title",
+            b"author",
+            b"date",
+            b"abstract",
+            b"section",
+            b"subsection",
+            b"subsubsection",
+        ],
+        Class::Block,
+        &[],
+    )?)?;
+    lines.push(line(alloc, b"title", b"h1", None, LINE, &[], Class::Inline, &[])?)?;
+    lines.push(line(
+        alloc,
+        b"author",
+        b"p",
+        Some(b"author"),
+        LINE,
+        &[],
+        Class::Inline,
+        &[],
+    )?)?;
+    lines.push(line(
+        alloc,
+        b"date",
+        b"p",
+        Some(b"date"),
+        LINE,
+        &[],
+        Class::Inline,
+        &[],
+    )?)?;
+    lines.push(line(
+        alloc,
+        b"abstract",
+        b"div",
+        Some(b"abstract"),
+        NONE,
+        &[],
+        Class::Block,
+        &[],
+    )?)?;
+    Ok(())
+}
+
+// Sections and headings.
+#[tactic(auto, unfolding(crate::specs::Table::sections))]
+fn push_sections(alloc: Global, lines: &mut ElementLines) -> Result<(), AllocError>
+    ensures { OnOk result (lines.new ≡ lines.old ++ sections) }
+{
+    lines.push(line(
+        alloc,
+        b"section",
+        b"section",
+        None,
+        PART,
+        &[b"heading", b"subsection", b"subsubsection"],
+        Class::Block,
+        &[b"number"],
+    )?)?;
+    lines.push(line(
+        alloc,
+        b"subsection",
+        b"section",
+        None,
+        PART,
+        &[b"subheading", b"subsubsection"],
+        Class::Block,
+        &[b"number"],
+    )?)?;
+    lines.push(line(
+        alloc,
+        b"subsubsection",
+        b"section",
+        None,
+        PART,
+        &[b"subsubheading"],
+        Class::Block,
+        &[b"number"],
+    )?)?;
+    lines.push(line(
+        alloc,
+        b"heading",
+        b"h2",
+        None,
+        LINE,
+        &[],
+        Class::Inline,
+        &[],
+    )?)?;
+    lines.push(line(
+        alloc,
+        b"subheading",
+        b"h3",
+        None,
+        LINE,
+        &[],
+        Class::Inline,
+        &[],
+    )?)?;
+    lines.push(line(
+        alloc,
+        b"subsubheading",
+        b"h4",
+        None,
+        LINE,
+        &[],
+        Class::Inline,
+        &[],
+    )?)?;
+    Ok(())
+}
+
+// Paragraphs, lists and quotes.
+#[tactic(auto, unfolding(crate::specs::Table::paragraphs))]
+fn push_paragraphs(alloc: Global, lines: &mut ElementLines) -> Result<(), AllocError>
+    ensures { OnOk result (lines.new ≡ lines.old ++ paragraphs) }
+{
+    lines.push(line(alloc, b"p", b"p", None, PARAGRAPH, &[], Class::Inline, &[])?)?;
+    lines.push(line(
+        alloc,
+        b"list",
+        b"ul",
+        None,
+        NONE,
+        &[b"item"],
+        Class::Nothing,
+        &[],
+    )?)?;
+    lines.push(line(
+        alloc,
+        b"olist",
+        b"ol",
+        None,
+        NONE,
+        &[b"item"],
+        Class::Nothing,
+        &[],
+    )?)?;
+    lines.push(line(
+        alloc,
+        b"dlist",
+        b"ul",
+        Some(b"description"),
+        NONE,
+        &[b"item"],
+        Class::Nothing,
+        &[],
+    )?)?;
+    lines.push(line(
+        alloc,
+        b"item",
+        b"li",
+        None,
+        ITEM,
+        &[b"term"],
+        Class::Block,
+        &[b"number"],
+    )?)?;
+    lines.push(line(
+        alloc,
+        b"term",
+        b"b",
+        Some(b"term"),
+        WORDS,
+        &[],
+        Class::Inline,
+        &[],
+    )?)?;
+    lines.push(line(
+        alloc,
+        b"quote",
+        b"blockquote",
+        None,
+        NONE,
+        &[],
+        Class::Block,
+        &[],
+    )?)?;
+    lines.push(line(
+        alloc,
+        b"verbatim",
+        b"pre",
+        None,
+        WORDS,
+        &[],
+        Class::Nothing,
+        &[],
+    )?)?;
+    Ok(())
+}
+
+// Figures and tables.
+#[tactic(auto, unfolding(crate::specs::Table::floats))]
+fn push_floats(alloc: Global, lines: &mut ElementLines) -> Result<(), AllocError>
+    ensures { OnOk result (lines.new ≡ lines.old ++ floats) }
+{
+    lines.push(line(
+        alloc,
+        b"figure",
+        b"figure",
+        None,
+        HOLDER,
+        &[b"caption", b"graphics"],
+        Class::Block,
+        &[b"number"],
+    )?)?;
+    lines.push(line(
+        alloc,
+        b"float",
+        b"figure",
+        Some(b"table"),
+        HOLDER,
+        &[b"caption", b"graphics"],
+        Class::Block,
+        &[b"number"],
+    )?)?;
+    lines.push(line(
+        alloc,
+        b"caption",
+        b"figcaption",
+        None,
+        LINE,
+        &[],
+        Class::Inline,
+        &[],
+    )?)?;
+    lines.push(line(
+        alloc,
+        b"graphics",
+        b"img",
+        None,
+        VOID,
+        &[],
+        Class::Nothing,
+        &[b"src"],
+    )?)?;
+    lines.push(line(alloc, b"break", b"br", None, VOID, &[], Class::Nothing, &[])?)?;
+    lines.push(line(
+        alloc,
+        b"tabular",
+        b"table",
+        None,
+        NONE,
+        &[b"tr"],
+        Class::Nothing,
+        &[],
+    )?)?;
+    lines.push(line(
+        alloc,
+        b"tr",
+        b"tr",
+        None,
+        ROW,
+        &[b"td"],
+        Class::Nothing,
+        &[],
+    )?)?;
+    lines.push(line(
+        alloc,
+        b"td",
+        b"td",
+        None,
+        PARAGRAPH,
+        &[b"tabular", b"list", b"olist"],
+        Class::Inline,
+        &[b"colspan"],
+    )?)?;
+    Ok(())
+}
+
+// Equations, the contents, the bibliography, and formulas.
+#[tactic(auto, unfolding(crate::specs::Table::displays))]
+fn push_displays(alloc: Global, lines: &mut ElementLines) -> Result<(), AllocError>
+    ensures { OnOk result (lines.new ≡ lines.old ++ displays) }
+{
+    lines.push(line(
+        alloc,
+        b"equation",
+        b"div",
+        Some(b"equation"),
+        NUMBERED,
+        &[b"num"],
+        Class::Nothing,
+        &[b"number"],
+    )?)?;
+    lines.push(line(
+        alloc,
+        b"display",
+        b"div",
+        Some(b"display"),
+        LINE,
+        &[],
+        Class::Nothing,
+        &[],
+    )?)?;
+    lines.push(line(
+        alloc,
+        b"toc",
+        b"ul",
+        Some(b"toc"),
+        NONE,
+        &[],
+        Class::Nothing,
+        &[],
+    )?)?;
+    lines.push(line(
+        alloc,
+        b"bibliography",
+        b"section",
+        Some(b"bibliography"),
+        NONE,
+        &[b"heading", b"bibitem"],
+        Class::Nothing,
+        &[],
+    )?)?;
+    lines.push(line(
+        alloc,
+        b"bibitem",
+        b"p",
+        Some(b"bibitem"),
+        ENTRY,
+        &[],
+        Class::Inline,
+        &[b"number"],
+    )?)?;
+    lines.push(line(
+        alloc,
+        b"math",
+        b"span",
+        Some(b"math"),
+        WORDS,
+        &[],
+        Class::Nothing,
+        &[],
+    )?)?;
+    Ok(())
+}
+
+// Within texts.
+#[tactic(auto, unfolding(crate::specs::Table::words))]
+fn push_words(alloc: Global, lines: &mut ElementLines) -> Result<(), AllocError>
+    ensures { OnOk result (lines.new ≡ lines.old ++ words) }
+{
+    lines.push(line(alloc, b"emph", b"em", None, WORDS, &[], Class::Inline, &[])?)?;
+    lines.push(line(
+        alloc,
+        b"strong",
+        b"strong",
+        None,
+        WORDS,
+        &[],
+        Class::Inline,
+        &[],
+    )?)?;
+    lines.push(line(
+        alloc,
+        b"code",
+        b"code",
+        None,
+        WORDS,
+        &[],
+        Class::Inline,
+        &[],
+    )?)?;
+    lines.push(line(
+        alloc,
+        b"link",
+        b"a",
+        None,
+        WORDS,
+        &[],
+        Class::Inline,
+        &[b"href"],
+    )?)?;
+    lines.push(line(alloc, b"ref", b"a", None, NONE, &[], Class::Nothing, &[])?)?;
+    lines.push(line(
+        alloc,
+        b"note",
+        b"span",
+        Some(b"note"),
+        NOTE,
+        &[],
+        Class::Inline,
+        &[b"number"],
+    )?)?;
+    lines.push(line(
+        alloc,
+        b"num",
+        b"span",
+        Some(b"num"),
+        WORDS,
+        &[],
+        Class::Nothing,
+        &[],
+    )?)?;
+    Ok(())
+}
+
+// A line of the table. The element holds these names, and those of a class.
+fn line(
+    alloc: Global,
+    name: &[u8],
+    tag: &[u8],
+    class: Option<&'static [u8]>,
+    flags: Flags,
+    names: &[&[u8]],
+    also: Class,
+    attrs: &[&[u8]],
+) -> Result<ElementLine, AllocError>
+    ensures { IfOk result (λ line. line ≡ row name.now tag.now (option_map (λ c. c.now) class.entry) flags (map (λ t. t.now) names.now) also (map (λ t. t.now) attrs.now)) }
+{
+    let mut holds = texts(alloc, names)?;
+    push_class(alloc, &mut holds, also)?;
     Ok(ElementLine {
         name: Bytes::from_slice(alloc, name)?,
         tag: Bytes::from_slice(alloc, tag)?,
-        class: class(alloc, class_name)?,
+        class: copied(alloc, class)?,
         flags,
-        holds: joined(alloc, holds)?,
+        holds,
         attrs: texts(alloc, attrs)?,
     })
 }
 
-// The class, if there is one.
-fn class(alloc: Global, name: Option<&'static [u8]>) -> Result<Option<Bytes>, AllocError>
-    ensures { IfOk result (λ class. class ≡ option_map (λ n. n.now) name.entry) }
+// The class with which an element is written, if there is one.
+fn copied(alloc: Global, name: Option<&'static [u8]>) -> Result<Option<Bytes>, AllocError>
+    ensures { IfOk result (λ copy. copy ≡ option_map (λ n. n.now) name.entry) }
 {
     match name {
         None => Ok(None),
@@ -390,19 +627,52 @@ fn class(alloc: Global, name: Option<&'static [u8]>) -> Result<Option<Bytes>, Al
     }
 }
 
-// The names of some classes, one class behind the other.
-fn joined(alloc: Global, classes: &[&'static [&'static [u8]]]) -> Result<ByteList, AllocError>
-    ensures { IfOk result (λ texts. texts ≡ flat_map (λ c. map (λ t. t.now) c.now) classes.now) }
+// Appends the names of a class.
+fn push_class(alloc: Global, all: &mut ByteList, class: Class) -> Result<(), AllocError>
+    ensures { OnOk result (all.new ≡ all.old ++ class_names class) }
 {
-    let mut all = ByteList::new(alloc);
-    for class in classes {
-        push_all(alloc, &mut all, *class)?;
+    match class {
+        Class::Nothing => Ok(()),
+        Class::Inline => push_all(
+            alloc,
+            all,
+            &[
+                b"math",
+                b"emph",
+                b"strong",
+                b"code",
+                b"link",
+                b"ref",
+                b"note",
+                b"graphics",
+                b"break",
+                b"num",
+            ],
+        ),
+        Class::Block => push_all(
+            alloc,
+            all,
+            &[
+                b"p",
+                b"list",
+                b"olist",
+                b"dlist",
+                b"quote",
+                b"verbatim",
+                b"figure",
+                b"float",
+                b"tabular",
+                b"equation",
+                b"display",
+                b"toc",
+                b"bibliography",
+            ],
+        ),
     }
-    Ok(all)
 }
 
 // Texts as a list.
-fn texts(alloc: Global, list: &[&'static [u8]]) -> Result<ByteList, AllocError>
+fn texts(alloc: Global, list: &[&[u8]]) -> Result<ByteList, AllocError>
     ensures { IfOk result (λ texts. texts ≡ map (λ t. t.now) list.now) }
 {
     let mut all = ByteList::new(alloc);
@@ -411,7 +681,7 @@ fn texts(alloc: Global, list: &[&'static [u8]]) -> Result<ByteList, AllocError>
 }
 
 // Appends texts.
-fn push_all(alloc: Global, all: &mut ByteList, list: &[&'static [u8]]) -> Result<(), AllocError>
+fn push_all(alloc: Global, all: &mut ByteList, list: &[&[u8]]) -> Result<(), AllocError>
     ensures { OnOk result (all.new ≡ all.old ++ map (λ t. t.now) list.now) }
 {
     for text in list {

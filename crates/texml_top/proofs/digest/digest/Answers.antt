@@ -84,9 +84,9 @@ rounds-preserved g c =
     let t = token_at mid.names c.in-Some.token in let seen = c.tokens.seen in
     let d = c.in_ok-op.ensures.does in let far = c.digest_token.new.engine in let m = option_to_list c.in_ok-op.op in
     record {
-      going = goes_on _ _ digestion digestion_laws t [] seen c.push_some.new.seen.items _ _ mid far _ _ _ _ _ _ _ _ i.going s
+      going = goes_on _ _ digestion digestion_laws t [] seen c.push_some.new.seen _ _ mid far _ _ _ _ _ _ _ _ i.going s
           (does_then _ _ (digest_token t) (λ m n. give (On (seen ++ m))) (lawful_token t) (λ m. lawful_plain (give (On (seen ++ m))) (plain_give _)) m _ mid far far _ _ _ _ _ _ d
-          (does_now _ _ (give (On (seen ++ m))) (plain_give _) (On c.push_some.new.seen.items) far _ _ d.keeps.sound d.stops.kept (ap (λ l. Done (On l) (state_of far) nothing) (sym c.in-Ok.ensures))));
+          (does_now _ _ (give (On (seen ++ m))) (plain_give _) (On c.push_some.new.seen) far _ _ d.keeps.sound d.stops.kept (ap (λ l. Done (On l) (state_of far) nothing) (sym c.in-Ok.ensures))));
       files = c.in_ok-op.ensures.files ∙ f.files ∙ i.files;
     }
 
@@ -98,9 +98,9 @@ tokens-preserved g c =
     let d = c.in_ok-op.ensures.does in let far = c.digest_token.new.engine in let m = option_to_list c.in_ok-op.op in
     let l = rw c.in-Some.is at (f.lower run) in let k = follows_lower _ _ (digest_token t) (lawful_token t) m (state_of mid) (state_of far) _ _ d.follows in
     record {
-      going = goes_on _ _ digestion digestion_laws t [] seen c.push_some.new.seen.items _ _ mid far _ _ _ _ _ _ _ _ i.going s
+      going = goes_on _ _ digestion digestion_laws t [] seen c.push_some.new.seen _ _ mid far _ _ _ _ _ _ _ _ i.going s
           (does_then _ _ (digest_token t) (λ m n. give (On (seen ++ m))) (lawful_token t) (λ m. lawful_plain (give (On (seen ++ m))) (plain_give _)) m _ mid far far _ _ _ _ _ _ d
-          (does_now _ _ (give (On (seen ++ m))) (plain_give _) (On c.push_some.new.seen.items) far _ _ d.keeps.sound d.stops.kept (ap (λ l. Done (On l) (state_of far) nothing) (sym c.in-Ok.ensures))));
+          (does_now _ _ (give (On (seen ++ m))) (plain_give _) (On c.push_some.new.seen) far _ _ d.keeps.sound d.stops.kept (ap (λ l. Done (On l) (state_of far) nothing) (sym c.in-Ok.ensures))));
       files = c.in_ok-op.ensures.files ∙ f.files ∙ i.files;
       begun = sym c.begun.ensures ∙ c.if-begun.false;
       same = i.same;
