@@ -135,6 +135,10 @@ module _ (a b : Shelf) (r mid new : Reader) (bytes : List ℕ) (size : ℕ) (sam
     line_room line end load =
         subst (λ k. room b k + weight (Some line) ≤ room a r) (sym behind) (room_line a b r mid.held f whole bytes size cuts line end load)
 
+-- a reader that was filled, and took nothing
+pub rows_kept : (a b : Shelf) (r mid : Reader) → mid ≡ holding r mid.held → Filled a b r.id r.held mid.held → IsTrue a.tells → rows_left b mid ≡ rows_left a r
+rows_kept a b r mid same f told = ap (rows_left b) same ∙ sym (rows_filled a b r mid.held f told)
+
 -- the first line of a reader's bytes
 pub cuts_at : (r : Reader) (fresh : Bool) (held line : List ℕ) (size : ℕ) → fresh ≡ r.fresh → held ≡ r.held → Cuts fresh held line size → Cuts r.fresh r.held line size
 cuts_at r fresh held line size p q c = subst (λ k. Cuts k r.held line size) p (subst (λ k. Cuts fresh k line size) q c)

@@ -30,8 +30,8 @@ GivesLine end old (Ok (Some line)) new =
     (text : List ℕ) × (size : ℕ) × (old ≡ record { text = Some text; size = size } ∷ new) × (line ≡ loaded end text)
 GivesLine end old (Ok None) new = (old ≡ []) × (new ≡ [])
 GivesLine end old (Err NotUtf8) new = (size : ℕ) × (old ≡ record { text = None; size = size } ∷ new)
-GivesLine end old (Err Failed) new = Unit {0}
-GivesLine end old (Err NoMemory) new = Unit {0}
+GivesLine end old (Err Failed) new = new ≡ old
+GivesLine end old (Err NoMemory) new = new ≡ old
 
 -- the number of the line last taken, behind an answer
 abbrev pub number_after : Result (Option (List ℕ)) LineFault → ℕ → ℕ

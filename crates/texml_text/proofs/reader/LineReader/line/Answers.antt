@@ -1,4 +1,4 @@
-use Rattle.texml_text.proofs.Taking.{line_given, bad_given, line_spends, line_room}
+use Rattle.texml_text.proofs.Taking.{rows_kept, line_given, bad_given, line_spends, line_room}
 use Rattle.texml_text.proofs.reader.LineReader.line.Goals as goal
 
 pub returns-in-Line-clause-lines : goal.returns-in-Line-clause-lines
@@ -30,3 +30,6 @@ returns-in-NotUtf8-clause-spends g c =
     let l = c.in-NotUtf8.ensures in
     line_spends _ _ c.args.self.now c.fill.new.self _ l.0 c.in-NotUtf8.size c.in_ok-fill.ensures.same c.in_ok-fill.ensures.filled l.1 c.pass-in-NotUtf8.ensures
     c.in_ok-fill.ensures.whole
+
+pub returns-in-NoMemory-clause-lines : goal.returns-in-NoMemory-clause-lines
+returns-in-NoMemory-clause-lines g c = rows_kept _ _ c.args.self.now c.fill.new.self c.in_ok-fill.ensures.same c.in_ok-fill.ensures.filled
