@@ -73,3 +73,9 @@ pub returns-in-Err-NoMemory-clause-turns : goal.returns-in-Err-NoMemory-clause-t
 returns-in-Err-NoMemory-clause-turns g c = λ told cats texts.
     turn_broken (g.F.Files.shelf c.args.files.now) (g.F.Files.shelf c.load.new.files) c.args.file c.load.new.self (sources_of c.args.frames.now.items) (sources_of c.put_last-in-Err-NoMemory.new.frames.items) c.put_last-in-Err-NoMemory.ensures.sources c.requires.held c.in-Err-NoMemory.ensures.id c.in-Err-NoMemory.ensures.touches
     cats c.args.end texts c.args.place.now c.requires.dry (rw c.in-Err-NoMemory.field-0-is at (c.in-Err-NoMemory.ensures.lines told))
+
+pub returns-in-Err-Failed-clause-aside : goal.returns-in-Err-Failed-clause-aside
+returns-in-Err-Failed-clause-aside g c = λ told. aside_is (g.F.Files.shelf c.args.files.now) (g.F.Files.shelf c.load.new.files) c.args.file c.load.new.self (sources_of c.args.frames.now.items) (sources_of c.put_last-in-Err-Failed.new.frames.items) c.put_last-in-Err-Failed.ensures.sources c.requires.held c.in-Err-Failed.ensures.id c.in-Err-Failed.ensures.touches
+
+pub returns-in-Err-NoMemory-clause-aside : goal.returns-in-Err-NoMemory-clause-aside
+returns-in-Err-NoMemory-clause-aside g c = λ told. aside_is (g.F.Files.shelf c.args.files.now) (g.F.Files.shelf c.load.new.files) c.args.file c.load.new.self (sources_of c.args.frames.now.items) (sources_of c.put_last-in-Err-NoMemory.new.frames.items) c.put_last-in-Err-NoMemory.ensures.sources c.requires.held c.in-Err-NoMemory.ensures.id c.in-Err-NoMemory.ensures.touches

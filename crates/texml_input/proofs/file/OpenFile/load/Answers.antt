@@ -15,4 +15,4 @@ returns-in-Ok-Some-clause-lines g c = λ told.
     (record { name = c.self.inside.name.value; ended = c.self.inside.ended; spot = c.new.result.spot; reader = c.next_line.new.self })
     c.args.end (character (to_z w32 (of_z w32 c.number_of.result))) c.in-Ok-Some.line c.if-self.false c.if-self.false
     (ap (λ m. m.spot) c.new.ensures) number
-    (ap character (to_z-of_z w32 c.number_of.result c.number_of.type_inv) ∙ c.number_of.ensures) l)
+    (ap character (to_z-of_z w32 c.number_of.result (record { sfits = c.number_of.type_inv })) ∙ c.number_of.ensures) l)
