@@ -77,8 +77,8 @@ module _ (old new : Shelf) (f g : Opened) (more after : List Source) (is : after
       turn_broken rows =
           subst (λ s. front_size new s ≤ bytes_of (next cats end (rest_at texts old (File f ∷ more)) place)) (sym is)
           (page_bytes cats end (rest_at texts old more) (next cats end (rest_at texts old more)) (page_of old f) dry place (rows_of new g) rows)
-      -- where nothing is left of its line, wherever that was seen
 
+    -- nothing is left of its line, wherever that was seen
     pub turn_dry : (other : Opened) → other ≡ at_spot f other → bites cats f.spot ≡ Dry → other.spot.tail ≡ []
         → next cats end (rest_at texts old (File f ∷ more)) place ≡ next cats end (rest_at texts old (File other ∷ more)) place
     turn_dry other p b none =
@@ -86,8 +86,9 @@ module _ (old new : Shelf) (f g : Opened) (more after : List Source) (is : after
         ∙ ap (λ k. next cats end (Text (page_of old k) ∷ rest_at texts old more) place) (sym p)
 
     -- a character of its line may not stand there
-    pub turn_invalid : (c : ℕ) → bites cats f.spot ≡ Bad c → next cats end (rest_at texts old (File f ∷ more)) place ≡ Invalid c place 0
-    turn_invalid c b = page_bad cats end (rest_at texts old more) (next cats end (rest_at texts old more)) f.name f.reader.number f.spot (rows_of old f) place c b
+    pub turn_invalid : (k c : ℕ) → k ≡ c → bites cats f.spot ≡ Bad c → next cats end (rest_at texts old (File f ∷ more)) place ≡ Invalid k place 0
+    turn_invalid k c same b =
+        page_bad cats end (rest_at texts old more) (next cats end (rest_at texts old more)) f.name f.reader.number f.spot (rows_of old f) place c b ∙ ap (λ n. Invalid n place 0) (sym same)
 
     -- a file that is read no further has no line
     pub turn_spoiled : g ≡ spoiled f → front_size new after ≤ bytes_of (next cats end (rest_at texts old (File f ∷ more)) place)

@@ -16,7 +16,10 @@ use Rattle.texml_input.specs.Rest.{Item, Tok, Frozen, Text, page, items_at, item
 use Rattle.texml_input.specs.Held.{Opened, Source, Plain, Marked, File, Fence, rows_of, page_of, rest_of, aside_of, rest_at, ids_of, fences_of, AreHeld, SourceWithin, SourcesWithin, file_room, room_of, ahead_of, AreLittle, AreSound, IsAtFence, end_first}
 use Rattle.texml_input.specs.Keeping.{Holds, Spends}
 use Rattle.texml_input.specs.Inside.{written, written_all, sources_of}
+use Rattle.texml_input.specs.Turning.{TakesList}
 use Rattle.texml_input.specs.declared.turning.Frame.{Frame}
+use Rattle.texml_input.specs.declared.turning.Turn.{Turn}
+use Rattle.texml_input.specs.declared.turning.Turn.TheVariants as turn
 
 -- frames
 
@@ -72,6 +75,25 @@ pub within_put : (count : ℕ) (list : List TokenCode) (more : List Source) → 
 within_put count [] more h k = k
 within_put count (t ∷ list) more h k =
     All-cons (SourceWithin count) (Plain t) (map Plain list ++ more) (All-head (TokenWithin count) t list h) (within_put count list more (All-tail (TokenWithin count) t list h) k)
+
+-- names give what stands behind
+within_more : (count : ℕ) (a b : List Source) → SourcesWithin count (a ++ b) → SourcesWithin count b
+within_more count [] b h = h
+within_more count (x ∷ a) b h = within_more count a b (All-tail (SourceWithin count) x (a ++ b) h)
+
+pub within_behind : (count : ℕ) (all a b : List Source) → all ≡ a ++ b → SourcesWithin count all → SourcesWithin count b
+within_behind count all a b e h = within_more count a b (subst (SourcesWithin count) e h)
+
+-- the first token of a list is taken, or the list has ended
+pub within_taken : (count : ℕ) (all : List Source) (list : List TokenCode) (more : List Source) (turn : Turn) (after : List Source) → all ≡ map Plain list ++ more → TakesList list more turn after
+    → SourcesWithin count all → SourcesWithin count after
+within_taken count all list more (turn.Token t frozen) after e k h =
+    subst (SourcesWithin count) (sym k.3) (within_behind count all (Plain t ∷ []) (map Plain k.0 ++ more) (e ∙ ap (λ l. map Plain l ++ more) k.1) h)
+within_taken count all list more turn.Again after e k h =
+    subst (SourcesWithin count) (sym k.1) (within_behind count all (map Plain list) more e h)
+within_taken count all list more turn.Loaded after e k h = absurd k
+within_taken count all list more turn.Ended after e k h = absurd k
+within_taken count all list more turn.End after e k h = absurd k
 
 -- the table of names grows
 

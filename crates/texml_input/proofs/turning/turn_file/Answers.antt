@@ -33,7 +33,7 @@ pub returns-in-Err-Invalid-clause-turns : goal.returns-in-Err-Invalid-clause-tur
 returns-in-Err-Invalid-clause-turns g c = λ told.
     let b = rw c.in-Err-Invalid.field-0-is at c.in-Err-Invalid.ensures.bites in
     turn_invalid (g.F.Files.shelf c.args.files.now) (g.F.Files.shelf c.args.files.now) c.args.file c.token.new.self (sources_of c.args.frames.now.items) (sources_of c.put_last-in-Err-Invalid.new.frames.items) c.put_last-in-Err-Invalid.ensures.sources c.requires.held (ap (λ k. k.reader.id) b.1) (touches_refl (g.F.Files.shelf c.args.files.now) c.args.file.reader.id)
-    (g.C.Codes.cats c.args.codes.now) c.args.end c.token.new.names c.args.place.now c.in-Err-Invalid.code b.0
+    (g.C.Codes.cats c.args.codes.now) c.args.end c.token.new.names c.args.place.now _ c.in-Err-Invalid.code c.in-Err-Invalid.code-is b.0
 
 pub returns-in-Err-NoMemory-clause-turns : goal.returns-in-Err-NoMemory-clause-turns
 returns-in-Err-NoMemory-clause-turns g c = λ told.
