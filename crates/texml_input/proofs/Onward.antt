@@ -106,13 +106,14 @@ module _ (s t u : Shelf) (a b c : List Source) (all : Given) (crossed : Bool) (x
     spends = spends_then s t u a b c o.loaded 0 o.spends q;
   }
 
-  -- the answer
-  pub loads_last : {A : Type 0} (r : Result A InputFault) (n : ℕ) → Spends t u b c n → n + broken_size r u c ≤ bytes_of x → Loads s u a c all r
-  loads_last r n q le = record {
-    loaded = o.loaded + n;
-    within = let e = ap bytes_of o.is ∙ bytes_behind o.loaded crossed x in omega arith;
-    spends = spends_then s t u a b c o.loaded n o.spends q;
-  }
+-- the answer
+pub loads_last : (s t u : Shelf) (a b c : List Source) (all : Given) (crossed : Bool) (x : Given) → Spent s t a b all crossed x
+    → {A : Type 0} (r : Result A InputFault) (n : ℕ) → Spends t u b c n → n + broken_size r u c ≤ bytes_of x → Loads s u a c all r
+loads_last s t u a b c all crossed x o r n q le = record {
+  loaded = o.loaded + n;
+  within = let e = ap bytes_of o.is ∙ bytes_behind o.loaded crossed x in omega arith;
+  spends = spends_then s t u a b c o.loaded n o.spends q;
+}
 
 -- the first token of the whole
 pub next_token : (all now : Given) (crossed : Bool) (t : Token) (frozen : Bool) (rest : List (Item Token)) (place : Place) → Onward all crossed now → now ≡ Got (taken t frozen) rest place 0
