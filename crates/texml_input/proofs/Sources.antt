@@ -1,7 +1,7 @@
 -- Sources, and what they stand for as other files are read.
-use Rattle.std.proofs.Common.{◌≡◌, ◌≢◌, ℕ, zero, suc, ◌+◌, ◌*◌, ◌≤◌, Bool, true, false, cond, ◌==◌, IsTrue, ◌<◌, List, [], ◌∷◌, ◌++◌, map, reverse, length, refl, sym, ap, ap₂, ◌∙◌, subst, arith, inl, inr, append-nil, append_assoc, length-append, take-append-drop, get_or, take, drop, Option, Some, None}
+use Rattle.std.proofs.Common.{◌≡◌, ◌≢◌, ℕ, zero, suc, ◌+◌, ◌*◌, ◌≤◌, Bool, true, false, cond, ◌==◌, IsTrue, ◌<◌, List, [], ◌∷◌, ◌++◌, map, reverse, length, refl, sym, ap, ap₂, ◌∙◌, subst, arith, inl, inr, append-nil, append_assoc, length-append, take-append-drop, get_or, set, take, drop, Option, Some, None}
 use Rattle.std.proofs.lemmas.Bool.{eq-eqb, ne_eqb, cases_eq, eqb-true, false≢true}
-use Rattle.std.proofs.lemmas.List.{reverse-append, drop_more}
+use Rattle.std.proofs.lemmas.List.{reverse-append, drop_more, take_more, take-set, drop-set-lt, get_or-set_same, set-get_or, length-set}
 use Rattle.std.proofs.lemmas.List.Elements.{All-nil, All-cons, All-head, All-tail, All-append}
 use Rattle.texml_base.specs.Rising.{add_up}
 use Rattle.texml_base.specs.Outside.{Shelf, in_use, without, SameAt, IsClosed}
@@ -18,6 +18,7 @@ use Rattle.texml_input.specs.Keeping.{Holds, Spends}
 use Rattle.texml_input.specs.Inside.{written, written_all, sources_of}
 use Rattle.texml_input.specs.Turning.{TakesList}
 use Rattle.texml_input.specs.declared.turning.Frame.{Frame}
+use Rattle.texml_input.specs.declared.turning.Frame.TheVariants as frame
 use Rattle.texml_input.specs.declared.turning.Turn.{Turn}
 use Rattle.texml_input.specs.declared.turning.Turn.TheVariants as turn
 
@@ -363,3 +364,29 @@ none_behind frames i x lt is none rest =
     ∙ ap ids_of (written_all-append (reverse (drop (i + 1) frames)) (x ∷ []))
     ∙ ids_of-append (sources_of (drop (i + 1) frames)) (written x ++ [])
     ∙ ap₂ (λ a b. a ++ b) rest (ap ids_of (append-nil (written x)) ∙ none)
+
+-- one frame more is counted
+pub ids_taken : (frames : List Frame) (i : ℕ) (x : Frame) → i < length frames → x ≡ get_or frames i x
+    → length (ids_of (sources_of (take (i + 1) frames))) ≡ length (ids_of (sources_of (take i frames))) + length (ids_of (written x))
+ids_taken frames i x lt is =
+    let e = ids_pushed (take i frames) (take (i + 1) frames) x (take_more frames i x lt ∙ ap (λ y. take i frames ++ y ∷ []) (sym is)) in
+    omega arith
+
+-- the first file is ended
+pub ended_at : (frames : List Frame) (i : ℕ) (f g : Opened) → i < length frames → frame.File f ≡ get_or frames i (frame.File f) → ids_of (sources_of (drop (i + 1) frames)) ≡ []
+    → g ≡ record f { ended = true } → sources_of (set frames i (frame.File g)) ≡ end_first (sources_of frames)
+ended_at frames i f g lt is none e =
+    sources_at (set frames i (frame.File g)) i (frame.File g) (rw length-set lt) (sym (get_or-set_same frames i (frame.File g) (frame.File g) lt))
+    ∙ ap₂ (λ a b. sources_of a ++ File g ∷ sources_of b) (drop-set-lt (i + 1) frames i (frame.File g) (omega arith)) (take-set frames i (frame.File g))
+    ∙ ap (λ k. sources_of (drop (i + 1) frames) ++ File k ∷ sources_of (take i frames)) e
+    ∙ sym (end_first_behind (sources_of (drop (i + 1) frames)) (sources_of (take i frames)) f none)
+    ∙ ap end_first (sym (sources_at frames i (frame.File f) lt is))
+
+-- a frame that is no file has no id
+pub no_file : (x : Frame) → ((f : Opened) → x ≡ frame.File f → ⊥) → ids_of (written x) ≡ []
+no_file (frame.Token t) n = refl
+no_file (frame.Frozen t) n = refl
+no_file (frame.List list) n = ids_plain list
+no_file (frame.Macro list) n = ids_plain list
+no_file (frame.File f) n = absurd (n f refl)
+no_file frame.Fence n = refl

@@ -349,6 +349,7 @@ fn turn_line<F: Files>(
 pub fn take_front(frames: &mut Vec<Frame>) -> Option<Frame>
     ensures sources { MatchOption result ((sources_of frames.old.items ≡ []) × (sources_of frames.new.items ≡ [])) (λ frame. sources_of frames.old.items ≡ written frame ++ sources_of frames.new.items) }
     ensures len { MatchOption result (vec_len frames.new ≡ vec_len frames.old) (λ _. vec_len frames.new + 1 ≡ vec_len frames.old) }
+    ensures none { MatchOption result (frames.new.items ≡ []) (λ _. Unit {0}) }
     ensures room { IfSome result (λ _. vec_len frames.new < vec_capacity frames.new) }
     ensures capacity { vec_capacity frames.new ≡ vec_capacity frames.old }
 {
