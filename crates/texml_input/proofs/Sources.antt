@@ -1,5 +1,5 @@
 -- Sources, and what they stand for as other files are read.
-use Rattle.std.proofs.Common.{◌≡◌, ◌≢◌, ℕ, zero, suc, ◌+◌, ◌*◌, ◌≤◌, Bool, true, false, cond, ◌==◌, IsTrue, ◌<◌, List, [], ◌∷◌, ◌++◌, map, reverse, length, refl, sym, ap, ap₂, ◌∙◌, subst, arith, inl, inr, append-nil, append_assoc, length-append, take-append-drop, get_or, set, take, drop, Option, Some, None}
+use Rattle.std.proofs.Common.{◌≡◌, ◌≢◌, ℕ, zero, suc, ◌+◌, ◌*◌, ◌≤◌, Bool, true, false, cond, ◌==◌, IsTrue, ◌<◌, List, [], ◌∷◌, ◌++◌, map, replicate, reverse, length, refl, sym, ap, ap₂, ◌∙◌, subst, arith, inl, inr, append-nil, append_assoc, length-append, take-append-drop, get_or, set, take, drop, Option, Some, None}
 use Rattle.std.proofs.lemmas.Bool.{eq-eqb, ne_eqb, cases_eq, eqb-true, false≢true}
 use Rattle.std.proofs.lemmas.List.{reverse-append, drop_more, take_more, take-set, drop-set-lt, get_or-set_same, set-get_or, length-set}
 use Rattle.std.proofs.lemmas.List.Elements.{All-nil, All-cons, All-head, All-tail, All-append}
@@ -390,3 +390,15 @@ no_file (frame.List list) n = ids_plain list
 no_file (frame.Macro list) n = ids_plain list
 no_file (frame.File f) n = absurd (n f refl)
 no_file frame.Fence n = refl
+
+-- a file that is ended has no fault
+pub sound_ended : (a : List Source) → AreSound a → AreSound (end_first a)
+sound_ended [] h = h
+sound_ended (Plain t ∷ a) h = sound_ended a h
+sound_ended (Marked t ∷ a) h = sound_ended a h
+sound_ended (File f ∷ a) h = h
+sound_ended (Fence ∷ a) h = sound_ended a h
+
+pub sound_fences : (n : ℕ) → AreSound (replicate n Fence)
+sound_fences zero = tt
+sound_fences (suc n) = sound_fences n
