@@ -1,8 +1,8 @@
 -- Frames that are taken away.
-use Rattle.std.proofs.Common.{◌≡◌, ℕ, ◌+◌, ◌*◌, List, [], ◌∷◌, ◌++◌, map, length, refl, sym, ap, ◌∙◌, subst, arith}
-use Rattle.texml_base.specs.Outside.{Shelf, IsClosed}
+use Rattle.std.proofs.Common.{◌≡◌, ℕ, ◌+◌, List, [], ◌∷◌, ◌++◌, map, refl, sym, ap, ◌∙◌, subst, arith}
+use Rattle.texml_base.specs.Outside.{Shelf}
 use Rattle.texml_token.specs.declared.tokens.Token.{Token as TokenCode}
-use Rattle.texml_input.specs.Held.{Source, Plain, Marked, File, Fence, ids_of, fences_of, AreHeld, IsAtFence}
+use Rattle.texml_input.specs.Held.{Source, Plain, Marked, Fence, ids_of, fences_of, AreHeld, IsAtFence}
 use Rattle.texml_input.specs.Keeping.{Holds}
 use Rattle.texml_input.specs.Inside.{written, ClosesFrame}
 use Rattle.texml_input.specs.declared.turning.Frame.{Frame}

@@ -1,21 +1,19 @@
 -- A turn of the file in front.
-use Rattle.std.proofs.Common.{◌≡◌, ℕ, ◌+◌, ◌≤◌, true, false, Bool, IsTrue, List, [], ◌∷◌, length, refl, sym, ap, ap₂, ◌∙◌, subst, arith, Option, Some, None, Ok, Err}
+use Rattle.std.proofs.Common.{◌≡◌, ℕ, ◌+◌, ◌≤◌, true, false, List, [], ◌∷◌, refl, sym, ap, ◌∙◌, subst, arith, Option, Some, Ok, Err}
 use Rattle.texml_base.specs.Rising.{add_up}
 use Rattle.texml_base.specs.Outside.{Shelf, IsClosed}
-use Rattle.texml_token.specs.Token.{Token}
 use Rattle.texml_token.specs.Numbers.{Table, token_at}
 use Rattle.texml_token.specs.declared.tokens.Token.{Token as TokenCode}
 use Rattle.texml_text.specs.Lines.{loaded}
 use Rattle.texml_text.specs.Reader.{Touches, GivesLine, rows_left, first_size, past_line, block}
 use Rattle.texml_text.specs.declared.reader.LineFault.TheVariants as line
-use Rattle.texml_mouth.specs.Mouth.{Spot, Gives, Dry, Bad, bites}
-use Rattle.texml_mouth.specs.declared.MouthFault.TheVariants as mouth
-use Rattle.texml_input.specs.Rest.{Item, Text, Place, start, items_at}
-use Rattle.texml_input.specs.Next.{Got, AtEnd, Invalid, NotUtf8, behind, bytes_of, taken, place_at, page_next, next}
+use Rattle.texml_mouth.specs.Mouth.{Gives, Dry, Bad, bites}
+use Rattle.texml_input.specs.Rest.{Text, Place, start, items_at}
+use Rattle.texml_input.specs.Next.{Got, Invalid, NotUtf8, behind, bytes_of, taken, place_at, next}
 use Rattle.texml_input.specs.Held.{Opened, Source, File, rows_of, page_of, rest_of, rest_at, aside_of, ids_of, AreHeld, file_room, room_of, front_size, AreLittle, AreLittlePast}
 use Rattle.texml_input.specs.Keeping.{Holds}
 use Rattle.texml_input.specs.declared.file.Found.TheVariants as found
-use Rattle.texml_input.specs.Loading.{at_spot, spoiled, GivesToken, LoadsPage}
+use Rattle.texml_input.specs.Loading.{at_spot, spoiled, LoadsPage}
 use Rattle.texml_input.proofs.Pages.{page_token, page_bad, page_dry, page_ended, page_line, page_not_text, page_bytes}
 use Rattle.texml_input.proofs.Sources.{rest_read, aside_read, room_read, holds_read, rest_closed, aside_closed, room_closed, holds_closed, holds_trans}
 use Rattle.texml_text.proofs.Cutting.{past_length}

@@ -1,5 +1,5 @@
 -- Turns one after the other.
-use Rattle.std.proofs.Common.{◌≡◌, ℕ, ◌+◌, ◌≤◌, ◌*◌, Bool, true, false, ◌||◌, List, [], length, refl, sym, ap, ◌∙◌, subst, arith, Option, Some, None, Result, Ok, Err}
+use Rattle.std.proofs.Common.{◌≡◌, ℕ, ◌+◌, ◌≤◌, Bool, true, false, ◌||◌, List, [], refl, sym, ap, ◌∙◌, arith, Option, Result, Err}
 use Rattle.texml_base.specs.Rising.{add_up}
 use Rattle.texml_base.specs.Outside.{Shelf}
 use Rattle.texml_text.proofs.Filling.{add_up_twice}

@@ -1,5 +1,5 @@
 -- One step of a text.
-use Rattle.std.proofs.Common.{◌≡◌, ℕ, ◌+◌, ◌≤◌, Bool, true, false, List, [], ◌∷◌, refl, sym, ap, ◌∙◌, subst, arith, Option, Some, None}
+use Rattle.std.proofs.Common.{◌≡◌, ℕ, ◌+◌, ◌≤◌, Bool, true, false, List, [], ◌∷◌, refl, sym, ap, ◌∙◌, arith, Option, Some, None}
 use Rattle.texml_base.specs.Rising.{add_up}
 use Rattle.texml_token.specs.Token.{Token}
 use Rattle.texml_text.specs.Lines.{loaded}

@@ -1,13 +1,12 @@
 -- Bodies of macros with their arguments.
-use Rattle.std.proofs.Common.{◌≡◌, ℕ, zero, suc, ◌+◌, ◌-◌, ◌<◌, ◌≤◌, List, [], ◌∷◌, ◌++◌, map, length, get_or, drop, slice_index_or, refl, sym, ap, ap₂, ◌∙◌, subst, arith, Option, Some, None, add-one}
+use Rattle.std.proofs.Common.{◌≡◌, ℕ, zero, suc, List, [], ◌∷◌, ◌++◌, map, refl, ap₂, ◌∙◌, None}
 use Rattle.std.specs.List.{All}
-use Rattle.std.proofs.lemmas.List.{drop_more, map-append}
+use Rattle.std.proofs.lemmas.List.{map-append}
 use Rattle.std.proofs.lemmas.List.Elements.{All-nil, All-cons, All-head, All-tail, All-append}
-use Rattle.texml_token.specs.Token.{Token}
 use Rattle.texml_token.specs.Numbers.{Table, token_at, tokens_at, name_at, TokenWithin, TokensWithin, BodyTokenWithin, BodyWithin}
 use Rattle.texml_token.specs.declared.tokens.Token.{Token as TokenCode}
 use Rattle.texml_token.specs.declared.tokens.Token.TheVariants as tokens
-use Rattle.texml_input.specs.Put.{argument, replaced, put_by, slot_of, put, code_slot, put_code}
+use Rattle.texml_input.specs.Put.{argument, replaced, slot_of, put, code_slot, put_code}
 
 -- the arguments of the code stand for those of the definitions
 argument_at : (texts : Table) (args : List (List TokenCode)) (n : ℕ) → tokens_at texts (argument args n) ≡ argument (map (tokens_at texts) args) n

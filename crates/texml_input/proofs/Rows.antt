@@ -1,5 +1,5 @@
 -- The definitions computed on small values.
-use Rattle.std.proofs.Common.{◌≡◌, ℕ, ◌==◌, if◌then◌else◌, true, false, pos, negsuc, [], ◌∷◌, None, Some, refl, codes}
+use Rattle.std.proofs.Common.{◌≡◌, ℕ, ◌==◌, if◌then◌else◌, true, false, negsuc, [], ◌∷◌, None, Some, refl, codes}
 use Rattle.texml_base.specs.Outside.{Shelf}
 use Rattle.texml_token.specs.Token.{Char, Active, Param}
 use Rattle.texml_token.specs.declared.category.TheConstants.{END_OF_LINE, LETTER, OTHER, INVALID}
@@ -10,7 +10,7 @@ use Rattle.texml_input.specs.Codes.{category_of, character_of}
 use Rattle.texml_input.specs.Put.{put, left_of}
 use Rattle.texml_input.specs.Rest.{Tok, Frozen, Text, page, start, fresh, size, no_place}
 use Rattle.texml_input.specs.Next.{Got, AtEnd, Invalid, NotUtf8, taken, place_at, next}
-use Rattle.texml_input.specs.Held.{Plain, Marked, File, Fence, fresh_file, rest_of, aside_of, ids_of, fences_of, end_first, ahead_of}
+use Rattle.texml_input.specs.Held.{Plain, Marked, File, Fence, fresh_file, rest_of, aside_of, ids_of, fences_of, end_first}
 
 -- code 13 ends the line, code 127 is invalid
 abbrev pub cats : ℕ → ℕ

@@ -1,19 +1,17 @@
 -- Sources, and what they stand for as other files are read.
-use Rattle.std.proofs.Common.{◌≡◌, ◌≢◌, ℕ, zero, suc, ◌+◌, ◌*◌, ◌≤◌, Bool, true, false, cond, ◌==◌, IsTrue, ◌<◌, List, [], ◌∷◌, ◌++◌, map, replicate, reverse, length, refl, sym, ap, ap₂, ◌∙◌, subst, arith, inl, inr, append-nil, append_assoc, length-append, take-append-drop, get_or, set, take, drop, Option, Some, None}
-use Rattle.std.proofs.lemmas.Bool.{eq-eqb, ne_eqb, cases_eq, eqb-true, false≢true}
-use Rattle.std.proofs.lemmas.List.{reverse-append, drop_more, take_more, take-set, drop-set-lt, get_or-set_same, set-get_or, length-set}
-use Rattle.std.proofs.lemmas.List.Elements.{All-nil, All-cons, All-head, All-tail, All-append}
-use Rattle.texml_base.specs.Rising.{add_up}
+use Rattle.std.proofs.Common.{◌≡◌, ◌≢◌, ℕ, zero, suc, ◌+◌, ◌*◌, ◌≤◌, Bool, true, false, cond, ◌==◌, IsTrue, ◌<◌, List, [], ◌∷◌, ◌++◌, map, replicate, reverse, length, refl, sym, ap, ap₂, ◌∙◌, subst, arith, append-nil, append_assoc, length-append, take-append-drop, get_or, set, take, drop}
+use Rattle.std.proofs.lemmas.Bool.{eq-eqb, false≢true}
+use Rattle.std.proofs.lemmas.List.{reverse-append, drop_more, take_more, take-set, drop-set-lt, get_or-set_same, length-set}
+use Rattle.std.proofs.lemmas.List.Elements.{All-cons, All-head, All-tail}
 use Rattle.texml_base.specs.Outside.{Shelf, in_use, without, SameAt, IsClosed}
 use Rattle.texml_base.proofs.Ids.{in_use-without}
-use Rattle.texml_token.specs.Token.{Token}
-use Rattle.texml_token.specs.Numbers.{Table, Extends, token_at, TokenWithin, TokensWithin}
+use Rattle.texml_token.specs.Numbers.{Table, Extends, TokenWithin, TokensWithin}
 use Rattle.texml_token.specs.declared.tokens.Token.{Token as TokenCode}
 use Rattle.texml_token.proofs.Translation.{token_kept, token_more}
 use Rattle.texml_text.specs.File.{rows_of_rest}
-use Rattle.texml_text.specs.Reader.{Touches, Spends as ReaderSpends, block}
-use Rattle.texml_input.specs.Rest.{Item, Tok, Frozen, Text, page, items_at, item_at}
-use Rattle.texml_input.specs.Held.{Opened, Source, Plain, Marked, File, Fence, rows_of, page_of, rest_of, aside_of, rest_at, ids_of, fences_of, AreHeld, SourceWithin, SourcesWithin, file_room, room_of, ahead_of, AreLittle, AreSound, IsAtFence, end_first}
+use Rattle.texml_text.specs.Reader.{Touches, Spends as ReaderSpends}
+use Rattle.texml_input.specs.Rest.{Tok, Frozen, Text, page}
+use Rattle.texml_input.specs.Held.{Opened, Source, Plain, Marked, File, Fence, page_of, rest_of, aside_of, rest_at, ids_of, fences_of, AreHeld, SourceWithin, SourcesWithin, file_room, room_of, ahead_of, AreLittle, AreSound, IsAtFence, end_first}
 use Rattle.texml_input.specs.Keeping.{Holds, Spends}
 use Rattle.texml_input.specs.Inside.{written, written_all, sources_of}
 use Rattle.texml_input.specs.Turning.{TakesList}

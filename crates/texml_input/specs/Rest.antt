@@ -1,8 +1,7 @@
 -- The flat rest: what is still to be read (The TeXbook, chapters 7 and 8).
 use Rattle.std.specs.Prelude.{ℕ, ◌+◌, Bool, true, false, List, [], map, sum_by, length, Option, Some, None}
-use Rattle.std.specs.List.{All}
 use Rattle.texml_token.specs.Token.{Token}
-use Rattle.texml_token.specs.Numbers.{Table, token_at, TokenWithin}
+use Rattle.texml_token.specs.Numbers.{Table, token_at}
 use Rattle.texml_token.specs.declared.tokens.Token.{Token as TokenCode}
 use Rattle.texml_text.specs.File.{Row}
 use Rattle.texml_mouth.specs.Mouth.{Spot}

@@ -1,6 +1,6 @@
-use Rattle.std.proofs.Common.{◌++◌, sym, ap, ◌∙◌, subst, arith}
+use Rattle.std.proofs.Common.{ap, ◌∙◌, subst, arith}
 use Rattle.texml_input.specs.Held.{ids_of, AreHeld}
-use Rattle.texml_input.specs.Inside.{sources_of, written}
+use Rattle.texml_input.specs.Inside.{sources_of}
 use Rattle.texml_input.specs.Held.{fences_of}
 use Rattle.texml_input.proofs.Emptied.{fences_written, held_frame, holds_more, total_frame}
 use Rattle.texml_input.proofs.emptying.close.Goals as goal
@@ -18,8 +18,8 @@ loop-frame-preserved g c =
       fences = omega (arith, c.loop-frame.invariant.fences, c.close_frame-fences.ensures.fences);
       room = omega (arith, c.loop-frame.invariant.room, c.close_frame-fences.ensures.one, c.take_front.ensures.capacity);
       holds = holds_more (g.F.Files.shelf c.args.files.now) (g.F.Files.shelf c.loop-frame.files) (g.F.Files.shelf c.close_frame-fences.new.files)
-        (sources_of c.args.frames.now.items) (sources_of c.loop-frame.frames.items) (sources_of c.take_front.new.frames.items) c.in-Some.frame
-        c.loop-frame.invariant.holds c.in-Some.ensures.sources c.close_frame-fences.ensures.closes;
+          (sources_of c.args.frames.now.items) (sources_of c.loop-frame.frames.items) (sources_of c.take_front.new.frames.items) c.in-Some.frame
+          c.loop-frame.invariant.holds c.in-Some.ensures.sources c.close_frame-fences.ensures.closes;
       total = total_frame c.in-Some.frame (g.F.Files.shelf c.loop-frame.files) (g.F.Files.shelf c.close_frame-fences.new.files) c.close_frame-fences.ensures.closes ∙ c.loop-frame.invariant.total;
       faults = c.close_frame-fences.ensures.faults ∙ c.loop-frame.invariant.faults;
     }

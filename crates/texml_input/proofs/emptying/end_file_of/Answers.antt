@@ -1,4 +1,4 @@
-use Rattle.std.proofs.Common.{◌≡◌, ◌+◌, ◌-◌, ◌<◌, ◌≤◌, [], length, get_or, set, drop, refl, sym, ap, ◌∙◌, subst, arith}
+use Rattle.std.proofs.Common.{◌≡◌, ◌+◌, ◌-◌, ◌<◌, [], length, get_or, set, drop, sym, ap, ◌∙◌, subst, arith}
 use Rattle.std.proofs.lemmas.List.{set-get_or}
 use Rattle.texml_input.specs.Held.{ids_of, end_first}
 use Rattle.texml_input.specs.Inside.{sources_of}
@@ -24,8 +24,8 @@ loop-at-preserved c =
       within = omega arith;
       same = same ∙ c.loop-at.invariant.same;
       none = ap (λ l. ids_of (sources_of (drop i l))) same
-        ∙ none_behind c.loop-at.frames.items i c.index_mut.result.now lt c.index_mut.ensures.value (no_file c.index_mut.result.now c.in_default.not-File)
-        (subst (λ n. ids_of (sources_of (drop n c.loop-at.frames.items)) ≡ []) next c.loop-at.invariant.none);
+          ∙ none_behind c.loop-at.frames.items i c.index_mut.result.now lt c.index_mut.ensures.value (no_file c.index_mut.result.now c.in_default.not-File)
+          (subst (λ n. ids_of (sources_of (drop n c.loop-at.frames.items)) ≡ []) next c.loop-at.invariant.none);
     }
 
 pub returns : goal.returns

@@ -1,4 +1,4 @@
-use Rattle.std.proofs.Common.{◌≡◌, ◌∙◌, IsTrue, Ok, Err, Some, None, refl, sym, subst, arith}
+use Rattle.std.proofs.Common.{◌∙◌, IsTrue, Ok, Err, Some, None, refl, sym, subst, arith}
 use Rattle.texml_token.proofs.Table.{extends_trans}
 use Rattle.texml_input.specs.Next.{next}
 use Rattle.texml_input.specs.Held.{rest_at, front_size}
@@ -13,11 +13,11 @@ pub loop-fault-preserved-in-Ok-Again : goal.loop-fault-preserved-in-Ok-Again
 loop-fault-preserved-in-Ok-Again g c =
     let told_now : IsTrue (g.F.Files.shelf c.args.files.now).tells → IsTrue (g.F.Files.shelf c.loop-fault.files).tells = λ told. subst IsTrue (sym c.loop-fault.invariant.holds.tells) told in
     record {
-      onward = λ told. onward_again _ _ _ (next (g.C.Codes.cats c.args.codes.now) c.args.end (rest_at c.take_turn.new.names (g.F.Files.shelf c.take_turn.new.files) (sources_of c.take_turn.new.frames.items)) c.take_turn.new.place) (c.loop-fault.invariant.onward told)  (rw c.in-Ok-Again.field-0-is at (c.in-Ok-Again.ensures.turns (told_now told)));
+      onward = λ told. onward_again _ _ _ (next (g.C.Codes.cats c.args.codes.now) c.args.end (rest_at c.take_turn.new.names (g.F.Files.shelf c.take_turn.new.files) (sources_of c.take_turn.new.frames.items)) c.take_turn.new.place) (c.loop-fault.invariant.onward told) (rw c.in-Ok-Again.field-0-is at (c.in-Ok-Again.ensures.turns (told_now told)));
       spent = λ told small.
-        spent_again _ _ _ _ _ _ _ _ _ (next (g.C.Codes.cats c.args.codes.now) c.args.end (rest_at c.take_turn.new.names (g.F.Files.shelf c.take_turn.new.files) (sources_of c.take_turn.new.frames.items)) c.take_turn.new.place) (c.loop-fault.invariant.spent told small) 
-        (rw c.in-Ok-Again.field-0-is at (c.in-Ok-Again.ensures.spends (told_now told) (c.loop-fault.invariant.little small)))
-        (rw c.in-Ok-Again.field-0-is at (c.in-Ok-Again.ensures.turns (told_now told)));
+          spent_again _ _ _ _ _ _ _ _ _ (next (g.C.Codes.cats c.args.codes.now) c.args.end (rest_at c.take_turn.new.names (g.F.Files.shelf c.take_turn.new.files) (sources_of c.take_turn.new.frames.items)) c.take_turn.new.place) (c.loop-fault.invariant.spent told small)
+          (rw c.in-Ok-Again.field-0-is at (c.in-Ok-Again.ensures.spends (told_now told) (c.loop-fault.invariant.little small)))
+          (rw c.in-Ok-Again.field-0-is at (c.in-Ok-Again.ensures.turns (told_now told)));
       holds = holds_trans _ _ _ _ _ _ c.loop-fault.invariant.holds c.take_turn.ensures.holds;
       fences = c.take_turn.ensures.fences ∙ c.loop-fault.invariant.fences;
       aside = λ told. c.take_turn.ensures.aside (told_now told) ∙ c.loop-fault.invariant.aside told;
@@ -27,9 +27,9 @@ loop-fault-preserved-in-Ok-Again g c =
       grows = extends_trans _ _ _ c.loop-fault.invariant.grows c.take_turn.ensures.grows;
       numbered = c.take_turn.ensures.numbered;
       lower =
-        let falls = rw c.in-Ok-Again.field-0-is at c.in-Ok-Again.ensures.falls in
-        let before = c.loop-fault.invariant.lower in
-        omega arith;
+          let falls = rw c.in-Ok-Again.field-0-is at c.in-Ok-Again.ensures.falls in
+          let before = c.loop-fault.invariant.lower in
+          omega arith;
       faults = c.in-Ok-Again.ensures.cause.kept ∙ c.loop-fault.invariant.faults;
     }
 
@@ -39,9 +39,9 @@ loop-fault-preserved-in-Ok-Loaded g c =
     record {
       onward = λ told. onward_loaded _ _ _ (next (g.C.Codes.cats c.args.codes.now) c.args.end (rest_at c.take_turn.new.names (g.F.Files.shelf c.take_turn.new.files) (sources_of c.take_turn.new.frames.items)) c.take_turn.new.place) (c.loop-fault.invariant.onward told) (front_size (g.F.Files.shelf c.loop-fault.files) (sources_of c.loop-fault.frames.items)) (rw c.in-Ok-Loaded.field-0-is at (c.in-Ok-Loaded.ensures.turns (told_now told)));
       spent = λ told small.
-        spent_loaded _ _ _ _ _ _ _ _ _ (next (g.C.Codes.cats c.args.codes.now) c.args.end (rest_at c.take_turn.new.names (g.F.Files.shelf c.take_turn.new.files) (sources_of c.take_turn.new.frames.items)) c.take_turn.new.place) (c.loop-fault.invariant.spent told small) (front_size (g.F.Files.shelf c.loop-fault.files) (sources_of c.loop-fault.frames.items))
-        (rw c.in-Ok-Loaded.field-0-is at (c.in-Ok-Loaded.ensures.spends (told_now told) (c.loop-fault.invariant.little small)))
-        (rw c.in-Ok-Loaded.field-0-is at (c.in-Ok-Loaded.ensures.turns (told_now told)));
+          spent_loaded _ _ _ _ _ _ _ _ _ (next (g.C.Codes.cats c.args.codes.now) c.args.end (rest_at c.take_turn.new.names (g.F.Files.shelf c.take_turn.new.files) (sources_of c.take_turn.new.frames.items)) c.take_turn.new.place) (c.loop-fault.invariant.spent told small) (front_size (g.F.Files.shelf c.loop-fault.files) (sources_of c.loop-fault.frames.items))
+          (rw c.in-Ok-Loaded.field-0-is at (c.in-Ok-Loaded.ensures.spends (told_now told) (c.loop-fault.invariant.little small)))
+          (rw c.in-Ok-Loaded.field-0-is at (c.in-Ok-Loaded.ensures.turns (told_now told)));
       holds = holds_trans _ _ _ _ _ _ c.loop-fault.invariant.holds c.take_turn.ensures.holds;
       fences = c.take_turn.ensures.fences ∙ c.loop-fault.invariant.fences;
       aside = λ told. c.take_turn.ensures.aside (told_now told) ∙ c.loop-fault.invariant.aside told;
@@ -51,9 +51,9 @@ loop-fault-preserved-in-Ok-Loaded g c =
       grows = extends_trans _ _ _ c.loop-fault.invariant.grows c.take_turn.ensures.grows;
       numbered = c.take_turn.ensures.numbered;
       lower =
-        let falls = rw c.in-Ok-Loaded.field-0-is at c.in-Ok-Loaded.ensures.falls in
-        let before = c.loop-fault.invariant.lower in
-        omega arith;
+          let falls = rw c.in-Ok-Loaded.field-0-is at c.in-Ok-Loaded.ensures.falls in
+          let before = c.loop-fault.invariant.lower in
+          omega arith;
       faults = c.in-Ok-Loaded.ensures.cause.kept ∙ c.loop-fault.invariant.faults;
     }
 
@@ -61,11 +61,11 @@ pub loop-fault-preserved : goal.loop-fault-preserved
 loop-fault-preserved g c =
     let told_now : IsTrue (g.F.Files.shelf c.args.files.now).tells → IsTrue (g.F.Files.shelf c.loop-fault.files).tells = λ told. subst IsTrue (sym c.loop-fault.invariant.holds.tells) told in
     record {
-      onward = λ told. onward_ended _ _ _ (next (g.C.Codes.cats c.args.codes.now) c.args.end (rest_at c.take_turn.new.names (g.F.Files.shelf c.take_turn.new.files) (sources_of c.take_turn.new.frames.items)) c.take_turn.new.place) (c.loop-fault.invariant.onward told)  (rw c.in-Ok-Ended.field-0-is at (c.in-Ok-Ended.ensures.turns (told_now told)));
+      onward = λ told. onward_ended _ _ _ (next (g.C.Codes.cats c.args.codes.now) c.args.end (rest_at c.take_turn.new.names (g.F.Files.shelf c.take_turn.new.files) (sources_of c.take_turn.new.frames.items)) c.take_turn.new.place) (c.loop-fault.invariant.onward told) (rw c.in-Ok-Ended.field-0-is at (c.in-Ok-Ended.ensures.turns (told_now told)));
       spent = λ told small.
-        spent_ended _ _ _ _ _ _ _ _ _ (next (g.C.Codes.cats c.args.codes.now) c.args.end (rest_at c.take_turn.new.names (g.F.Files.shelf c.take_turn.new.files) (sources_of c.take_turn.new.frames.items)) c.take_turn.new.place) (c.loop-fault.invariant.spent told small) 
-        (rw c.in-Ok-Ended.field-0-is at (c.in-Ok-Ended.ensures.spends (told_now told) (c.loop-fault.invariant.little small)))
-        (rw c.in-Ok-Ended.field-0-is at (c.in-Ok-Ended.ensures.turns (told_now told)));
+          spent_ended _ _ _ _ _ _ _ _ _ (next (g.C.Codes.cats c.args.codes.now) c.args.end (rest_at c.take_turn.new.names (g.F.Files.shelf c.take_turn.new.files) (sources_of c.take_turn.new.frames.items)) c.take_turn.new.place) (c.loop-fault.invariant.spent told small)
+          (rw c.in-Ok-Ended.field-0-is at (c.in-Ok-Ended.ensures.spends (told_now told) (c.loop-fault.invariant.little small)))
+          (rw c.in-Ok-Ended.field-0-is at (c.in-Ok-Ended.ensures.turns (told_now told)));
       holds = holds_trans _ _ _ _ _ _ c.loop-fault.invariant.holds c.take_turn.ensures.holds;
       fences = c.take_turn.ensures.fences ∙ c.loop-fault.invariant.fences;
       aside = λ told. c.take_turn.ensures.aside (told_now told) ∙ c.loop-fault.invariant.aside told;
@@ -75,9 +75,9 @@ loop-fault-preserved g c =
       grows = extends_trans _ _ _ c.loop-fault.invariant.grows c.take_turn.ensures.grows;
       numbered = c.take_turn.ensures.numbered;
       lower =
-        let falls = rw c.in-Ok-Ended.field-0-is at c.in-Ok-Ended.ensures.falls in
-        let before = c.loop-fault.invariant.lower in
-        omega arith;
+          let falls = rw c.in-Ok-Ended.field-0-is at c.in-Ok-Ended.ensures.falls in
+          let before = c.loop-fault.invariant.lower in
+          omega arith;
       faults = c.in-Ok-Ended.ensures.cause.kept ∙ c.loop-fault.invariant.faults;
     }
 

@@ -1,4 +1,4 @@
-use Rattle.std.proofs.Common.{◌∷◌, [], refl, ap, ◌∙◌, sym}
+use Rattle.std.proofs.Common.{◌∷◌, []}
 use Rattle.texml_input.specs.Held.{rest_at, front_size, File, Plain, Marked}
 use Rattle.texml_input.specs.Inside.{sources_of}
 use Rattle.texml_input.proofs.Sources.{within_behind, within_taken}

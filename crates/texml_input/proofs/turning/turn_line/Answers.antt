@@ -3,7 +3,7 @@ use Rattle.texml_base.specs.Outside.{IsClosed}
 use Rattle.texml_text.proofs.Filling.{touches_refl}
 use Rattle.texml_input.specs.Next.{place_at}
 use Rattle.texml_input.specs.Inside.{sources_of}
-use Rattle.texml_input.proofs.InFront.{aside_is, room_is, turn_loaded, turn_not_text, turn_broken, turn_ended, aside_gone, room_gone, holds_gone, little_past, little_broken}
+use Rattle.texml_input.proofs.InFront.{aside_is, room_is, turn_loaded, turn_not_text, turn_broken, turn_ended, aside_gone, room_gone, holds_gone, little_past}
 use Rattle.texml_input.proofs.turning.turn_line.Goals as goal
 
 pub returns-in-Err-clause-turns : goal.returns-in-Err-clause-turns
