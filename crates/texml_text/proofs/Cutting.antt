@@ -1,14 +1,13 @@
 -- The first line of bytes.
-use Rattle.std.proofs.Common.{◌≡◌, ◌≢◌, ℕ, zero, suc, ◌+◌, ◌-◌, ◌<◌, ◌≤◌, List, [], ◌∷◌, ◌++◌, length, get_or, take, drop, ◌==◌, cond, ◌&&◌, ◌||◌, true, false, Bool, refl, sym, ap, ◌∙◌, arith, inl, inr, take-append-drop, None, Some, Option, subst, take_all, length-drop, length-take, length-append, append_assoc, append-nil, add-one, rules}
-use Rattle.std.proofs.lemmas.Bool.{eq-eqb, ne_eqb, cases_eq, eqb-true, cases_lt, lt-ltb}
-use Rattle.std.proofs.lemmas.Bool.Decides.{nat_tests}
-use Rattle.std.specs.List.{position, position_or_len, list_any}
-use Rattle.std.proofs.lemmas.List.{take_rest, length-take-le, drop-append-le, drop-drop}
+use Rattle.std.proofs.Common.{◌≡◌, ℕ, zero, suc, ◌+◌, ◌-◌, ◌<◌, ◌≤◌, List, [], ◌∷◌, ◌++◌, length, get_or, take, drop, ◌==◌, cond, ◌&&◌, ◌||◌, true, false, Bool, refl, sym, ap, ◌∙◌, arith, inl, inr, take-append-drop, None, Some, subst, length-take, append_assoc, append-nil, add-one}
+use Rattle.std.proofs.lemmas.Bool.{ne_eqb, cases_eq, eqb-true, cases_lt, lt-ltb}
+use Rattle.std.specs.List.{position, position_or_len}
+use Rattle.std.proofs.lemmas.List.{take_rest, length-take-le}
 use Rattle.std.proofs.lemmas.List.Sums.{fails_before_first}
 use Rattle.std.proofs.lemmas.List.Quantifiers.{position-Some}
 use Rattle.std.proofs.Math.Seq.{drop-cons, drop-length}
 use Rattle.std.specs.Str.Lines.{strip_carriage_return}
-use Rattle.texml_text.specs.File.{row, last_row, rows_behind, begins_with_mark, with_bytes, rows_of_rest}
+use Rattle.texml_text.specs.File.{row, last_row, rows_behind, begins_with_mark}
 use Rattle.texml_text.specs.Reader.{past_line}
 use Rattle.texml_text.specs.Inside.{has_feed, IsWhole, Cuts, CutsNone}
 

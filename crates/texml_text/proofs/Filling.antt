@@ -1,7 +1,7 @@
 -- Blocks of a file.
-use Rattle.std.proofs.Common.{◌≡◌, ◌≢◌, ℕ, ◌+◌, ◌≤◌, List, [], ◌∷◌, ◌++◌, length, IsTrue, refl, sym, ap, ap₂, ◌∙◌, subst, arith, append_assoc, append-nil, length-append}
+use Rattle.std.proofs.Common.{◌≡◌, ℕ, ◌+◌, List, [], ◌++◌, length, IsTrue, refl, sym, ap, ◌∙◌, subst, arith, append_assoc, append-nil, length-append}
 use Rattle.texml_base.specs.Rising.{add_up}
-use Rattle.texml_base.specs.Outside.{Shelf, SameAt, OthersSame, IsRead}
+use Rattle.texml_base.specs.Outside.{Shelf, SameAt, IsRead}
 use Rattle.texml_text.specs.Reader.{Touches}
 use Rattle.texml_text.specs.Inside.{Filled}
 

@@ -1,5 +1,5 @@
 -- The definitions computed on small values.
-use Rattle.std.proofs.Common.{◌≡◌, ◌++◌, [], ◌∷◌, None, Some, Ok, Err, pos, negsuc, false, refl, codes}
+use Rattle.std.proofs.Common.{◌≡◌, ◌++◌, [], ◌∷◌, None, Some, Err, pos, negsuc, false, refl, codes}
 use Rattle.std.specs.Str.{chars, is_utf8}
 use Rattle.texml_text.specs.Lines.{lines, without_mark, trim_end, loaded}
 use Rattle.texml_text.specs.File.{rows, rows_of_rest, character}

@@ -1,15 +1,14 @@
 -- What taking a line leaves.
-use Rattle.std.proofs.Common.{◌≡◌, ℕ, zero, suc, ◌+◌, ◌-◌, ◌*◌, ◌≤◌, Bool, true, false, cond, ◌&&◌, ◌==◌, IsTrue, List, [], ◌∷◌, ◌++◌, length, drop, refl, sym, ap, ◌∙◌, subst, arith, append_assoc, append-nil, length-append, length-drop, Option, Some, None, Result, Ok, Err}
-use Rattle.std.proofs.lemmas.Str.{chars-nil, is_utf8-from_IsUtf8, IsUtf8-from_is_utf8}
+use Rattle.std.proofs.Common.{◌≡◌, ℕ, zero, suc, ◌+◌, ◌-◌, ◌*◌, ◌≤◌, Bool, true, false, cond, ◌&&◌, ◌==◌, IsTrue, List, [], ◌∷◌, ◌++◌, length, drop, refl, sym, ap, ◌∙◌, subst, arith, append_assoc, append-nil, length-append, length-drop, Option, Some, None, Ok, Err}
+use Rattle.std.proofs.lemmas.Str.{chars-nil, IsUtf8-from_is_utf8}
 use Rattle.std.proofs.lemmas.Bool.{false_from_ne_true}
 use Rattle.std.specs.Str.{chars, IsUtf8, chars_after, continuation_len, lead_bits, is_utf8}
-use Rattle.texml_base.specs.Rising.{add_up}
 use Rattle.texml_base.specs.Outside.{Shelf}
 use Rattle.texml_text.specs.Lines.{trim_end, end_codes, loaded}
-use Rattle.texml_text.specs.File.{Row, row, rows_of_rest}
-use Rattle.texml_text.specs.Reader.{Reader, rows_left, GivesLine, room, weight, first_size, bytes_loaded, Spends}
-use Rattle.texml_text.specs.declared.reader.LineFault.TheVariants.{NotUtf8, Failed, NoMemory}
-use Rattle.texml_text.specs.Inside.{has_feed, IsWhole, Filled, Cuts, CutsNone, passed}
+use Rattle.texml_text.specs.File.{row, rows_of_rest}
+use Rattle.texml_text.specs.Reader.{Reader, rows_left, GivesLine, room, weight, first_size, Spends}
+use Rattle.texml_text.specs.declared.reader.LineFault.TheVariants.{NotUtf8}
+use Rattle.texml_text.specs.Inside.{has_feed, Filled, Cuts, CutsNone, passed}
 
 trim_by : (b : Bool) (c : ℕ) (cs xs : List ℕ) → length xs ≤ length cs → length (cond b [] (c ∷ xs)) ≤ length (c ∷ cs)
 trim_by true c cs xs h = omega arith
