@@ -56,7 +56,7 @@ broken_size (Err fault.NotUtf8) shelf sources = 0
 broken_size (Err fault.Failed) shelf sources = front_size shelf sources
 broken_size (Err fault.NoMemory) shelf sources = front_size shelf sources
 
--- so many bytes were loaded. Those of the line that was being loaded are among the bytes that the rest loads
+-- so many bytes were loaded. The rest loads them, and where reading broke off inside a line those of that line too
 pub record Loads {A : Type 0} (old new : Shelf) (a b : List Source) (all : Given) (result : Result A InputFault) : Type 0 where
   pub loaded : ℕ
   pub within : loaded + broken_size result new b ≤ bytes_of all

@@ -17,7 +17,7 @@ pub record Holds (old new : Shelf) (a b : List Source) : Type 0 where
   pub uses : (id : ℕ) → in_use (ids_of a) id ≡ false → in_use new.ids id ≡ in_use old.ids id
   pub others : (id : ℕ) → in_use (ids_of a) id ≡ false → SameAt old new id
 
--- files gave bytes: with those that were ahead before, they are at most the bytes loaded and those that are ahead, and a block for each file that was closed
+-- files gave bytes: together with what was ahead before they are no more than what was loaded, what is ahead now, and one block for each closed file
 pub record Spends (old new : Shelf) (a b : List Source) (loaded : ℕ) : Type 0 where
   pub given : ℕ
   pub total : new.total ≡ add_up old.total given

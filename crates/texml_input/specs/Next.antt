@@ -7,7 +7,7 @@ use Rattle.texml_text.specs.File.{Row}
 use Rattle.texml_mouth.specs.Mouth.{Spot, Bite, Gives, Dry, Bad, bites}
 use Rattle.texml_input.specs.Rest.{Page, Item, Tok, Frozen, Text, Place, page, start}
 
--- a token, whether it is kept from being expanded, and whether a text has ended before it
+-- what was taken: a token, whether it is frozen, and whether a text ended on the way to it
 pub record Taken : Type 0 where
   pub token : Token
   pub frozen : Bool

@@ -7,7 +7,7 @@ use Rattle.texml_text.specs.File.{Row}
 use Rattle.texml_mouth.specs.Mouth.{Spot}
 use Rattle.texml_mouth.specs.declared.LineState.TheVariants.{NewLine}
 
--- a text: its name, the number of its line last loaded, where in that line it is, and its lines that aren't loaded
+-- a text: its name, how many of its lines were loaded, where in the last of these it is read from, and the lines that weren't
 pub record Page : Type 0 where
   pub name : List ℕ
   pub number : ℕ

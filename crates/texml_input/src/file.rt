@@ -15,8 +15,8 @@ use texml_mouth::{Codes, Mouth, MouthFault};
 use texml_text::{LineFault, LineReader};
 use texml_token::{Bytes, Line, Names, Token};
 
-// A file: its name, which the place of a line shares; whether no line of it is loaded any more; the mouth of its line last
-// loaded, which has met no fault; and the reader of its lines.
+// A file: its name, which a place shares with it; whether it loads no line any more; the mouth of the line that it is in, which
+// has met no fault; and the reader of its lines.
 #[derive(Debug, Drop)]
 pub struct OpenFile {
     name: Rc<Bytes>,
@@ -57,7 +57,7 @@ impl OpenFile {
         })
     }
 
-    // Its name.
+    // What it is called.
     pub fn name(&self) -> Result<Rc<Bytes>, AllocError>
         ensures { IfOk result (λ name. name.value ≡ self.now.name) }
     {

@@ -59,8 +59,8 @@ impl Input {
         }
     }
 
-    /// Takes the next token, or answers None at a fence, or where nothing is left. A line of a file is loaded where its first
-    /// token is asked for; the place is then that line. Characters have the categories that the scope has at this call, a line
+    /// Takes the next token, or answers None at a fence, or where nothing is left. A line of a file is loaded only for its first
+    /// token, and from then on is the place. Characters have the categories that the scope has at this call, a line
     /// gets its end character, and a name is given its number in `names` (The TeXbook, chapters 7 and 8). A file that has ended
     /// is closed where the next token is asked for.
     ///

@@ -1,5 +1,5 @@
-//! What is still to be read: tokens put back, bodies of macros with their arguments, and files, one before the other, with fences
-//! between what is set aside (The TeXbook, chapters 7, 8 and 20).
+//! What a run has still to read: tokens that were put back, bodies of macros with their arguments, and files, one before the other, with
+//! fences between what is set aside (The TeXbook, chapters 7, 8 and 20).
 //!
 //! The contract in a sentence: an input stands, together with its files, for one flat list of tokens and texts up to the first
 //! fence, `Input::next` takes the first token of that list as specs/Next.antt says, and each push puts its tokens or its file

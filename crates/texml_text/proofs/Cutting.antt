@@ -47,7 +47,7 @@ length_strip_by false l n = omega arith
 length_strip : (l : List ℕ) → length (strip_carriage_return l) ≤ length l
 length_strip l = length_strip_by _ l (length l - 1)
 
--- where no line feed is found there is none
+-- a search for a line feed that finds none
 no_feed_by : (xs : List ℕ) → ((k : ℕ) → k < length xs → (get_or xs k 0 == 10) ≡ false) → has_feed xs ≡ false
 no_feed_by [] h = refl
 no_feed_by (x ∷ xs) h = rw (h 0 (omega arith)) (no_feed_by xs (λ k lt. h (suc k) (omega arith)))

@@ -7,8 +7,8 @@ use Rattle.texml_text.specs.File.{Row, rows_of_rest}
 use Rattle.texml_text.specs.declared.reader.LineFault.{LineFault}
 use Rattle.texml_text.specs.declared.reader.LineFault.TheVariants.{NotUtf8, Failed, NoMemory}
 
--- the id of its file, the bytes that the file has given and no line has taken, whether no line was taken yet, the number of the line last taken, and the fault that it
--- answers from now on
+-- its file's id; the bytes that the file gave and that are in no line yet; whether it has given no line; how many lines it gave, up to the greatest
+-- number; and the fault that is its answer from now on
 pub record Reader : Type 0 where
   pub id : ℕ
   pub held : List ℕ
@@ -20,7 +20,7 @@ pub record Reader : Type 0 where
 abbrev pub fresh_reader : ℕ → Reader
 fresh_reader id = record { id = id; held = []; fresh = true; number = 0; fault = None }
 
--- the lines that a reader has left: those of what it holds, followed by what its file has left
+-- the lines still to come: of the bytes at hand and, behind them, those that the file still has
 abbrev pub rows_left : Shelf → Reader → List Row
 rows_left shelf r = rows_of_rest r.fresh (r.held ++ shelf.left r.id)
 
