@@ -1,2 +1,5 @@
 pub mod FirstLine
+pub mod Cutting
+pub mod Filling
+pub mod Taking
 pub mod Rows

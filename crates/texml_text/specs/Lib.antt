@@ -1,1 +1,4 @@
 pub mod Lines
+pub mod File
+pub mod Reader
+pub mod Inside

@@ -1,0 +1,9 @@
+pub mod Pages
+pub mod Putting
+pub mod Reading
+pub mod Sources
+pub mod InFront
+pub mod Onward
+pub mod Turns
+pub mod Emptied
+pub mod Rows

@@ -1,0 +1,11 @@
+pub mod Codes
+pub mod Put
+pub mod Shared
+pub mod Rest
+pub mod Next
+pub mod Held
+pub mod Keeping
+pub mod Answers
+pub mod Inside
+pub mod Loading
+pub mod Turning
