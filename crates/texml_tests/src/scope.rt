@@ -3,7 +3,7 @@
 use std::test::Fail;
 use texml_base::Steps;
 use texml_scope::*;
-use texml_token::{Line, Names, Token, Tokens};
+use texml_token::{Token, Tokens};
 
 #[test]
 fn local_value_ends_with_its_group(rt: HostRuntime) -> Result<(), Fail> {
@@ -15,19 +15,6 @@ fn local_value_ends_with_its_group(rt: HostRuntime) -> Result<(), Fail> {
     let after = scope.end(GroupKind::Brace, &mut steps)?;
     assert_eq!(rt; after.as_slice(), [Token::Active(2)].as_slice());
     assert_eq!(rt; scope.number(&Key::Cat(64)), Some(12));
-    Ok(())
-}
-
-#[test]
-fn global_value_stays(rt: HostRuntime) -> Result<(), Fail> {
-    let mut steps = Steps::new();
-    let mut scope = Scope::new(rt.alloc());
-    let key = Key::Active(126);
-    scope.begin(GroupKind::Begin)?;
-    scope.set_global(key, Value::Means(Meaning::Builtin(29)), &mut steps)?;
-    assert_eq!(rt; scope.inner(), Some(GroupKind::Begin));
-    scope.end(GroupKind::Begin, &mut steps)?;
-    assert_eq!(rt; scope.get(&key)?, Value::Means(Meaning::Builtin(29)));
     Ok(())
 }
 
@@ -78,26 +65,5 @@ fn equal_macros_are_the_same(rt: HostRuntime) -> Result<(), Fail> {
     assert_eq!(rt; same_meaning(&one, &Meaning::Undefined), false);
     let value = Value::Means(one);
     assert_eq!(rt; copied(&value)?, value);
-    Ok(())
-}
-
-#[test]
-fn builtins_have_their_places(rt: HostRuntime) {
-    assert_eq!(rt; builtin(&[114, 101, 108, 97, 120]), Some(28), "relax");
-    assert_eq!(rt; builtin(&[100, 101, 102]), Some(29), "def");
-    assert_eq!(rt; builtin(&[112, 97, 114]), Some(74), "par");
-    assert_eq!(rt; builtin(&[102, 111, 111]), None, "foo is none");
-}
-
-#[test]
-fn run_starts_with_the_builtins(rt: HostRuntime) -> Result<(), Fail> {
-    let alloc = rt.alloc();
-    let mut names = Names::new(alloc);
-    let scope = first_scope(alloc, &mut names)?;
-    let par = names.intern(&Line::from_slice(alloc, &[112, 97, 114])?)?;
-    assert_eq!(rt;
-        meaning_in(scope.get(&Key::Name(par))?),
-        Meaning::Builtin(74)
-    );
     Ok(())
 }
