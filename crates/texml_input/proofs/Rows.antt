@@ -8,7 +8,7 @@ use Rattle.texml_text.specs.Reader.{fresh_reader}
 use Rattle.texml_mouth.specs.declared.LineState.TheVariants.{MidLine}
 use Rattle.texml_input.specs.Codes.{category_of, character_of}
 use Rattle.texml_input.specs.Put.{put, left_of}
-use Rattle.texml_input.specs.Rest.{Tok, Frozen, Text, page, start, fresh, size, no_place}
+use Rattle.texml_input.specs.Rest.{Tok, Frozen, Text, page, start, fresh, size, no_place, end_rests}
 use Rattle.texml_input.specs.Next.{Got, AtEnd, Invalid, NotUtf8, taken, place_at, next}
 use Rattle.texml_input.specs.Held.{Plain, Marked, File, Fence, fresh_file, rest_of, aside_of, ids_of, fences_of, end_first}
 
@@ -76,3 +76,7 @@ fences_are_counted = refl
 pub first_file_ends : end_first (Plain (tokens.Active 1) ∷ Fence ∷ File (fresh_file 7 []) ∷ File (fresh_file 5 []) ∷ [])
     ≡ Plain (tokens.Active 1) ∷ Fence ∷ File (record { name = []; ended = true; spot = start []; reader = fresh_reader 7 }) ∷ File (fresh_file 5 []) ∷ []
 first_file_ends = refl
+
+pub first_text_ends : end_rests ((Tok (Active 1) ∷ []) ∷ (Text (fresh [] (record { text = None; size = 2 } ∷ [])) ∷ []) ∷ (Text (fresh [] (record { text = None; size = 2 } ∷ [])) ∷ []) ∷ [])
+    ≡ (Tok (Active 1) ∷ []) ∷ (Text (fresh [] []) ∷ []) ∷ (Text (fresh [] (record { text = None; size = 2 } ∷ [])) ∷ []) ∷ []
+first_text_ends = refl
