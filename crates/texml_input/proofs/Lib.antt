@@ -2,6 +2,7 @@ pub mod Pages
 pub mod Putting
 pub mod Reading
 pub mod Sources
+pub mod Standing
 pub mod InFront
 pub mod Onward
 pub mod Turns

@@ -1,5 +1,5 @@
 -- The definitions computed on small values.
-use Rattle.std.proofs.Common.{◌≡◌, ℕ, ◌==◌, if◌then◌else◌, true, false, negsuc, [], ◌∷◌, None, Some, refl, codes}
+use Rattle.std.proofs.Common.{◌≡◌, ℕ, ◌==◌, if◌then◌else◌, true, false, negsuc, List, [], ◌∷◌, length, Option, None, Some, refl, codes}
 use Rattle.texml_base.specs.Outside.{Shelf}
 use Rattle.texml_token.specs.Token.{Char, Active, Param}
 use Rattle.texml_token.specs.declared.category.TheConstants.{END_OF_LINE, LETTER, OTHER, INVALID}
@@ -8,7 +8,8 @@ use Rattle.texml_text.specs.Reader.{fresh_reader}
 use Rattle.texml_mouth.specs.declared.LineState.TheVariants.{MidLine}
 use Rattle.texml_input.specs.Codes.{category_of, character_of}
 use Rattle.texml_input.specs.Put.{put, left_of}
-use Rattle.texml_input.specs.Rest.{Tok, Frozen, Text, page, start, fresh, size, no_place}
+use Rattle.texml_input.specs.Rest.{Tok, Frozen, Text, page, start, fresh, size, no_place, end_rests}
+use Rattle.texml_input.specs.Searching.{names_tried, first_there}
 use Rattle.texml_input.specs.Next.{Got, AtEnd, Invalid, NotUtf8, taken, place_at, next}
 use Rattle.texml_input.specs.Held.{Plain, Marked, File, Fence, fresh_file, rest_of, aside_of, ids_of, fences_of, end_first}
 
@@ -76,3 +77,23 @@ fences_are_counted = refl
 pub first_file_ends : end_first (Plain (tokens.Active 1) ∷ Fence ∷ File (fresh_file 7 []) ∷ File (fresh_file 5 []) ∷ [])
     ≡ Plain (tokens.Active 1) ∷ Fence ∷ File (record { name = []; ended = true; spot = start []; reader = fresh_reader 7 }) ∷ File (fresh_file 5 []) ∷ []
 first_file_ends = refl
+
+pub first_text_ends : end_rests ((Tok (Active 1) ∷ []) ∷ (Text (fresh [] (record { text = None; size = 2 } ∷ [])) ∷ []) ∷ (Text (fresh [] (record { text = None; size = 2 } ∷ [])) ∷ []) ∷ [])
+    ≡ (Tok (Active 1) ∷ []) ∷ (Text (fresh [] []) ∷ []) ∷ (Text (fresh [] (record { text = None; size = 2 } ∷ [])) ∷ []) ∷ []
+first_text_ends = refl
+
+pub name_without_a_dot : names_tried (codes "f") ≡ codes "f.tex" ∷ codes "f" ∷ []
+name_without_a_dot = refl
+
+pub name_with_a_dot : names_tried (codes "f.sty") ≡ codes "f.sty" ∷ codes "f.sty.tex" ∷ []
+name_with_a_dot = refl
+
+-- a folder that has all names of so many bytes, and no other
+abbrev pub of_length : ℕ → List ℕ → Option (List ℕ)
+of_length n name = if length name == n then Some [] else None
+
+pub second_name_is_there : first_there (of_length 1) (names_tried (codes "f")) ≡ Some (codes "f")
+second_name_is_there = refl
+
+pub no_name_is_there : first_there (of_length 2) (names_tried (codes "f")) ≡ None
+no_name_is_there = refl

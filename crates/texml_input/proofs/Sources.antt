@@ -116,13 +116,13 @@ rest_grown old new shelf g (Fence ∷ s) h = refl
 
 -- files that are as before
 
-SameAll : Shelf → Shelf → List Source → Type 0
+abbrev pub SameAll : Shelf → Shelf → List Source → Type 0
 SameAll old new s = (id : ℕ) → in_use (ids_of s) id ≡ true → SameAt old new id
 
-self_used : (id : ℕ) (ids : List ℕ) → in_use (id ∷ ids) id ≡ true
+pub self_used : (id : ℕ) (ids : List ℕ) → in_use (id ∷ ids) id ≡ true
 self_used id ids = rw (eq-eqb id id refl) refl
 
-behind_used : (id x : ℕ) (ids : List ℕ) → in_use ids x ≡ true → in_use (id ∷ ids) x ≡ true
+pub behind_used : (id x : ℕ) (ids : List ℕ) → in_use ids x ≡ true → in_use (id ∷ ids) x ≡ true
 behind_used id x ids h = by (id == x)
   where
     by : (b : Bool) → cond b true (in_use ids x) ≡ true
@@ -136,8 +136,7 @@ file_room_same : (old new : Shelf) (f : Opened) → SameAt old new f.reader.id �
 file_room_same old new f same = ap (λ n. 1 + length f.spot.tail + cond f.ended 0 (3 * length f.reader.held + 4 * n)) same.number
 
 module _ (old new : Shelf) where
-  rest_same : (s : List Source) → SameAll old new s → rest_of new s ≡ rest_of old s
-  unfolding SameAll
+  pub rest_same : (s : List Source) → SameAll old new s → rest_of new s ≡ rest_of old s
   rest_same [] h = refl
   rest_same (Plain t ∷ s) h = ap (λ l. Tok t ∷ l) (rest_same s h)
   rest_same (Marked t ∷ s) h = ap (λ l. Frozen t ∷ l) (rest_same s h)
@@ -145,16 +144,14 @@ module _ (old new : Shelf) where
       ap₂ (λ p l. Text p ∷ l) (page_same old new f (h f.reader.id (self_used f.reader.id (ids_of s)))) (rest_same s (λ x u. h x (behind_used f.reader.id x (ids_of s) u)))
   rest_same (Fence ∷ s) h = refl
 
-  aside_same : (s : List Source) → SameAll old new s → aside_of new s ≡ aside_of old s
-  unfolding SameAll
+  pub aside_same : (s : List Source) → SameAll old new s → aside_of new s ≡ aside_of old s
   aside_same [] h = refl
   aside_same (Plain t ∷ s) h = aside_same s h
   aside_same (Marked t ∷ s) h = aside_same s h
   aside_same (File f ∷ s) h = aside_same s (λ x u. h x (behind_used f.reader.id x (ids_of s) u))
   aside_same (Fence ∷ s) h = ap₂ (λ a b. a ∷ b) (rest_same s h) (aside_same s h)
 
-  room_same : (s : List Source) → SameAll old new s → room_of new s ≡ room_of old s
-  unfolding SameAll
+  pub room_same : (s : List Source) → SameAll old new s → room_of new s ≡ room_of old s
   room_same [] h = refl
   room_same (Plain t ∷ s) h = ap (λ n. 1 + n) (room_same s h)
   room_same (Marked t ∷ s) h = ap (λ n. 1 + n) (room_same s h)
@@ -164,7 +161,7 @@ module _ (old new : Shelf) where
 
 -- ids that are held
 
-used_not : (id : ℕ) (ids : List ℕ) (x : ℕ) → in_use ids id ≡ false → in_use ids x ≡ true → x ≢ id
+pub used_not : (id : ℕ) (ids : List ℕ) (x : ℕ) → in_use ids id ≡ false → in_use ids x ≡ true → x ≢ id
 used_not id ids x none used e = false≢true (sym none ∙ subst (λ k. in_use ids k ≡ true) e used)
 
 apart_not : (id x : ℕ) (ids : List ℕ) → in_use (id ∷ ids) x ≡ false → x ≢ id
@@ -225,7 +222,6 @@ holds_same s t a b c d p q h = record {
 -- the file in front is read
 module _ (old new : Shelf) (f g : Opened) (more : List Source) (held : AreHeld old.ids (ids_of (File f ∷ more))) (same : g.reader.id ≡ f.reader.id) (t : Touches old new f.reader.id) where
   apart : SameAll old new more
-  unfolding SameAll
   apart id used = t.others id (used_not f.reader.id (ids_of more) id held.1 used)
 
   pub rest_read : rest_of new more ≡ rest_of old more
@@ -264,7 +260,6 @@ module _ (old new : Shelf) (f g : Opened) (more : List Source) (held : AreHeld o
 -- the file in front is closed
 module _ (old new : Shelf) (f : Opened) (more : List Source) (held : AreHeld old.ids (ids_of (File f ∷ more))) (c : IsClosed old new f.reader.id) where
   apart_closed : SameAll old new more
-  unfolding SameAll
   apart_closed id used = c.others id (used_not f.reader.id (ids_of more) id held.1 used)
 
   pub rest_closed : rest_of new more ≡ rest_of old more

@@ -2,6 +2,7 @@ pub mod Codes
 pub mod Put
 pub mod Shared
 pub mod Rest
+pub mod Searching
 pub mod Next
 pub mod Held
 pub mod Keeping

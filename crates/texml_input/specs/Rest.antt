@@ -1,5 +1,5 @@
 -- The flat rest: what is still to be read (The TeXbook, chapters 7 and 8).
-use Rattle.std.specs.Prelude.{ℕ, ◌+◌, Bool, true, false, List, [], map, sum_by, length, Option, Some, None}
+use Rattle.std.specs.Prelude.{ℕ, ◌+◌, Bool, true, false, if◌then◌else◌, List, [], ◌∷◌, map, sum_by, length, Option, Some, None}
 use Rattle.texml_token.specs.Token.{Token}
 use Rattle.texml_token.specs.Numbers.{Table, token_at}
 use Rattle.texml_token.specs.declared.tokens.Token.{Token as TokenCode}
@@ -53,6 +53,29 @@ page name number spot rows = record { name = name; number = number; spot = spot;
 -- a text with these lines, of which nothing was read yet
 abbrev pub fresh : List ℕ → List Row → Page
 fresh name rows = page name 0 (start []) rows
+
+-- a text of which no further line is loaded
+abbrev pub ended : Page → Page
+ended p = page p.name p.number p.spot []
+
+-- whether a rest has a text
+abbrev pub has_text : {T : Type 0} → List (Item T) → Bool
+has_text [] = false
+has_text (Tok t ∷ rest) = has_text rest
+has_text (Frozen t ∷ rest) = has_text rest
+has_text (Text p ∷ rest) = true
+
+-- a rest whose first text, if it has one, is ended
+abbrev pub end_text : {T : Type 0} → List (Item T) → List (Item T)
+end_text [] = []
+end_text (Tok t ∷ rest) = Tok t ∷ end_text rest
+end_text (Frozen t ∷ rest) = Frozen t ∷ end_text rest
+end_text (Text p ∷ rest) = Text (ended p) ∷ rest
+
+-- the same of several rests, one behind the other: it is the first text of all
+abbrev pub end_rests : {T : Type 0} → List (List (Item T)) → List (List (Item T))
+end_rests [] = []
+end_rests (rest ∷ rests) = end_text rest ∷ (if has_text rest then rests else end_rests rests)
 
 -- how much is still to be read: a line that isn't loaded counts two more than its characters
 abbrev pub row_size : Option (List ℕ) → ℕ

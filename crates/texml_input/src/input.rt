@@ -4,9 +4,10 @@ ghost use Rattle.texml_token.specs.Numbers.{Extends, Numbered};
 ghost use Rattle.texml_scope.specs.Shown.{world_of};
 ghost use Rattle.texml_input.specs.Codes.{cats_of, end_of};
 ghost use Rattle.texml_input.specs.Put.{put_code};
-ghost use Rattle.texml_input.specs.Rest.{no_place};
+ghost use Rattle.texml_base.specs.Outside.{Shelf};
+ghost use Rattle.texml_input.specs.Rest.{no_place, end_rests};
 ghost use Rattle.texml_input.specs.Next.{next};
-ghost use Rattle.texml_input.specs.Held.{Plain, File, Fence, back_source, fresh_file, ids_of, fences_of, aside_of, AreHeld, AreSound, AreLittle, SourcesWithin, rest_at, room_of, IsAtFence, end_first};
+ghost use Rattle.texml_input.specs.Held.{Plain, File, Fence, back_source, fresh_file, ids_of, fences_of, rest_of, aside_of, AreHeld, AreSound, AreLittle, SourcesWithin, rest_at, room_of, IsAtFence, end_first};
 ghost use Rattle.texml_input.specs.Keeping.{Holds, HasInputCause};
 ghost use Rattle.texml_input.specs.Answers.{given_at, GivenWithin, IsNext, fault_after, LittleAfter, Loads, EndsAtFence};
 ghost use Rattle.texml_input.specs.Inside.{written};
@@ -201,8 +202,10 @@ impl Input {
 
     /// Ends the first file after its line last loaded: no further line of it is loaded. It may be set aside. Where no file is
     /// left nothing changes.
+    #[tactic(auto, using(crate::proofs::Standing::rests_ended))]
     pub fn end_file(&mut self)
-        ensures { self.new ≡ record self.old { sources = end_first self.old.sources } }
+        ensures ends { self.new ≡ record self.old { sources = end_first self.old.sources } }
+        ensures rests { (shelf : Shelf) → rest_of shelf self.new.sources ∷ aside_of shelf self.new.sources ≡ end_rests (rest_of shelf self.old.sources ∷ aside_of shelf self.old.sources) }
     {
         end_file_of(&mut self.frames);
     }

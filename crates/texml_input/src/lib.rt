@@ -13,8 +13,10 @@ mod fault;
 mod file;
 mod frame;
 mod input;
+mod searching;
 mod turning;
 
 pub use codes::{ScopeCodes, end_character};
 pub use fault::{InputFault, Read};
 pub use input::Input;
+pub use searching::{TextFile, open_text};
