@@ -1,6 +1,6 @@
 //! Reads characters as they stand: the text of `\verb`.
 
-ghost use Rattle.std.specs.Prelude.{◌≡◌, ◌++◌, length, None, IfOk, OnOk};
+ghost use Rattle.std.specs.Prelude.{◌≡◌, [], ◌∷◌, ◌++◌, length, None, IfOk, OnOk};
 ghost use Rattle.std.specs.Char.{IsScalar, encode_utf8};
 ghost use Rattle.texml_token.specs.Numbers.{token_at, TokenWithin};
 ghost use Rattle.texml_expand.specs.State.{change};
@@ -20,9 +20,11 @@ use texml_token::{Bytes, Token, category, fault_code};
 use texml_watch::Teller;
 
 /// The characters that are others there: space, tab, and those that begin with another meaning.
-pub const SPECIALS: [u32; 12] = [32, 9, 92, 123, 125, 36, 38, 35, 94, 95, 37, 126];
+pub const SPECIALS: [char; 12] = [' ', '\t', '\\', '{', '}', '$', '&', '#', '^', '_', '%', '~'];
 
 const STAR: u32 = 42;
+
+const OTHER: i32 = category::OTHER as i32;
 
 /// The text that stands between two times the same character, behind a star perhaps.
 ///
@@ -74,32 +76,32 @@ fn end_verb(engine: &mut Engine, text: Bytes) -> Result<Bytes, Stop>
 }
 
 // Makes characters others in the innermost group.
-fn make_others(engine: &mut Engine, codes: &[u32]) -> Result<(), Stop>
+fn make_others(engine: &mut Engine, characters: &[char]) -> Result<(), Stop>
     requires running { engine.old.stop ≡ None }
     requires sound { Sound engine.old }
-    ensures sets { Silent (change (all_other codes.now) (state_of engine.old)) result (state_of engine.new) }
+    ensures sets { Silent (change (all_other characters.now) (state_of engine.old)) result (state_of engine.new) }
     ensures kept { engine.new.stop ≡ stop_after result }
     ensures keeps { OnOk result (Kept engine.old engine.new) }
     ensures advances { Advances engine.old engine.new }
 {
-    for code in codes {
-        make_other(engine, *code)?;
+    for character in characters {
+        make_other(engine, *character)?;
     }
     Ok(())
 }
 
 // Makes a character an other.
-fn make_other(engine: &mut Engine, code: u32) -> Result<(), Stop>
+fn make_other(engine: &mut Engine, character: char) -> Result<(), Stop>
     requires running { engine.old.stop ≡ None }
     requires sound { Sound engine.old }
-    ensures sets { Silent (change (all_other (code ∷ [])) (state_of engine.old)) result (state_of engine.new) }
+    ensures sets { Silent (change (all_other (character ∷ [])) (state_of engine.old)) result (state_of engine.new) }
     ensures kept { engine.new.stop ≡ stop_after result }
     ensures keeps { OnOk result (Kept engine.old engine.new) }
     ensures advances { Advances engine.old engine.new }
 {
     let mut steps = Steps::new();
-    let value = Value::Number(i32::from(category::OTHER));
-    let set = engine.scope().set(Key::Cat(code), value, &mut steps);
+    let key = Key::Cat(character as u32);
+    let set = engine.scope().set(key, Value::Number(OTHER), &mut steps);
     engine.wrote(&steps);
     match set {
         Ok(()) => Ok(()),
@@ -199,6 +201,7 @@ fn char_of(engine: &mut Engine, token: Token) -> Result<u32, Stop>
     requires token { TokenWithin (length engine.old.names) token }
     ensures gives { Silent (spec_char_of (token_at engine.old.names token) (state_of engine.old)) result (state_of engine.new) }
     ensures kept { engine.new.stop ≡ stop_after result }
+    ensures keeps { OnOk result (Kept engine.old engine.new) }
     ensures is { engine.new ≡ record engine.old { stop = engine.new.stop } }
     ensures scalar { IfOk result IsScalar }
 {
