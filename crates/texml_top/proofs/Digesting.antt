@@ -1,15 +1,16 @@
 -- Digestion has one answer, and leaves no more to be read.
-use Rattle.std.proofs.Common.{ℕ, List, [], ◌∷◌, ◌==◌, Bool, true, false, if◌then◌else◌}
+use Rattle.std.proofs.Common.{◌≡◌, ◌==◌, ℕ, Bool, List, [], ◌∷◌, Option, refl}
 use Rattle.texml_token.specs.Token.{Token}
-use Rattle.texml_token.specs.declared.category.TheConstants.{BEGIN_GROUP, END_GROUP, SPACE}
+use Rattle.texml_token.specs.Numbers.{Table}
+use Rattle.texml_token.specs.declared.category.TheConstants as category
 use Rattle.texml_token.specs.declared.fault_code.TheConstants.{MISPLACED}
 use Rattle.texml_scope.specs.Texts.{Meaning}
 use Rattle.texml_scope.specs.declared.values.MeaningOf.TheVariants.{Builtin, Char as CharMeaning}
 use Rattle.texml_scope.specs.declared.values.KindOf.TheVariants.{Brace}
-use Rattle.texml_scope.specs.declared.builtins.TheConstants as builtins
+use Rattle.texml_scope.specs.Numbers.{MeaningCode, meaning_at}
 use Rattle.texml_tree.specs.declared.ops.Op.{Op}
 use Rattle.texml_tree.specs.declared.ops.Op.TheVariants as op
-use Rattle.texml_expand.specs.State.{Reading, give, chain}
+use Rattle.texml_expand.specs.State.{State, Reading, give, fail, chain}
 use Rattle.texml_expand.specs.Arguments.{read_optional}
 use Rattle.texml_expand.proofs.Falls.{level_leads}
 use Rattle.texml_assign.specs.declared.executing.Executed.{Executed}
@@ -24,21 +25,23 @@ use Rattle.texml_assign.proofs.Looping.{LawfulLoop, lawful_loop}
 use Rattle.texml_assign.proofs.Commands.{plain_begin, plain_end, lawful_fetch, lawful_execute}
 use Rattle.texml_assign.proofs.NewCommands.{plain_starred, plain_optional}
 use Rattle.texml_top.specs.declared.table.TheConstants.{PARAGRAPH, BREAK, CODE}
+use Rattle.texml_top.specs.declared.digest.Word.{Word}
+use Rattle.texml_top.specs.declared.digest.Word.TheVariants.{ParagraphEnd, Space, Verb, Newline, Misplaced}
 use Rattle.texml_top.specs.declared.gather.Gathered.{Gathered}
 use Rattle.texml_top.specs.Gather.{nothing_yet, all_of, add_all}
 use Rattle.texml_top.specs.Verb.{verb}
-use Rattle.texml_top.specs.Digest.{none, is_text, digest_char, code, newline, digest_builtin, digest_meaning, digest_left, digest_token, digest_turn, digestion}
+use Rattle.texml_top.specs.Digest.{none, is_text, digest_char, code, newline, word_at, digest_word, digest_meaning, digest_left, digest_token, digest_turn, digestion}
 use Rattle.texml_top.proofs.Verbs.{lawful_verb}
 
 plain_none : (command : Reading (Unit {0})) → Plain command → Plain (none command)
 plain_none command p = plain_then command (λ _. give []) p (λ _. plain_give [])
 
 pub plain_char : (c category : ℕ) → Plain (digest_char c category)
-plain_char c category =
-    plain_if (category == SPACE) _ _ (plain_give _)
-    (plain_if (is_text category) _ _ (plain_give _)
-    (plain_if (category == BEGIN_GROUP) _ _ (plain_none (begin_kind Brace) (plain_begin Brace))
-    (plain_if (category == END_GROUP) _ _ (plain_none (end_kind Brace) (plain_end Brace)) (plain_fail _ MISPLACED []))))
+plain_char c kind =
+    plain_if (kind == category.SPACE) _ _ (plain_give _)
+    (plain_if (is_text kind) _ _ (plain_give _)
+    (plain_if (kind == category.BEGIN_GROUP) _ _ (plain_none (begin_kind Brace) (plain_begin Brace))
+    (plain_if (kind == category.END_GROUP) _ _ (plain_none (end_kind Brace) (plain_end Brace)) (plain_fail _ MISPLACED []))))
 
 -- the operations of a text
 abbrev pub code_ops : List ℕ → List Op
@@ -47,31 +50,43 @@ code_ops text = op.Open CODE [] ∷ op.Text text ∷ op.Close CODE ∷ []
 pub lawful_code : Lawful code
 lawful_code = lawful_then verb (λ text n. give (code_ops text)) lawful_verb (λ text. lawful_plain (give (code_ops text)) (plain_give _))
 
--- what follows the star
+-- the operations of the end of a line
+abbrev pub break_ops : List Op
+break_ops = op.Open BREAK [] ∷ op.Close BREAK ∷ []
+
+-- what follows the argument in brackets, and what follows the star
+abbrev pub behind_bracket : Option (List Token) → Reading (List Op)
+behind_bracket o = give break_ops
+
+pub plain_behind_bracket : (o : Option (List Token)) → Plain (behind_bracket o)
+plain_behind_bracket o = plain_give break_ops
+
 abbrev pub behind_star : Bool → Reading (List Op)
-behind_star star s = chain (read_optional s) (λ _. give (op.Open BREAK [] ∷ op.Close BREAK ∷ []))
+behind_star star s = chain (read_optional s) behind_bracket
 
 pub plain_behind_star : (star : Bool) → Plain (behind_star star)
-plain_behind_star star = plain_then read_optional (λ _. give (op.Open BREAK [] ∷ op.Close BREAK ∷ [])) plain_optional (λ _. plain_give _)
+plain_behind_star star = plain_then read_optional behind_bracket plain_optional plain_behind_bracket
 
 pub plain_newline : Plain newline
 plain_newline = plain_then starred behind_star plain_starred plain_behind_star
 
-lawful_if : {A : Type 0} (b : Bool) (x y : ByDepth A) → Lawful x → Lawful y → Lawful (λ n. if b then x n else y n)
-lawful_if true x y g h = g
-lawful_if false x y g h = h
-
-pub lawful_builtin : (place : ℕ) → Lawful (digest_builtin place)
-lawful_builtin place =
-    lawful_if (place == builtins.PAR) _ _ (lawful_plain (give (op.CloseIf PARAGRAPH ∷ [])) (plain_give _))
-    (lawful_if (place == builtins.SPACE) _ _ (lawful_plain (give (op.Space ∷ [])) (plain_give _))
-    (lawful_if (place == builtins.VERB) _ _ lawful_code
-    (lawful_if (place == builtins.NEWLINE) _ _ (lawful_plain newline plain_newline) (lawful_plain _ (plain_fail _ MISPLACED [])))))
+pub lawful_word : (word : Word) → Lawful (digest_word word)
+lawful_word ParagraphEnd = lawful_plain (give (op.CloseIf PARAGRAPH ∷ [])) (plain_give _)
+lawful_word Space = lawful_plain (give (op.Space ∷ [])) (plain_give _)
+lawful_word Verb = lawful_code
+lawful_word Newline = lawful_plain newline plain_newline
+lawful_word Misplaced = lawful_plain _ (plain_fail _ MISPLACED [])
 
 pub lawful_meaning : (m : Meaning) → Lawful (digest_meaning m)
 lawful_meaning (CharMeaning c category) = lawful_plain (digest_char c category) (plain_char c category)
-lawful_meaning (Builtin place) = lawful_builtin place
+lawful_meaning (Builtin place) = lawful_word (word_at place)
 lawful_meaning m = lawful_plain _ (plain_fail _ MISPLACED [])
+
+-- a meaning that is no character and no builtin may not stand where it is digested
+pub misplaced : (names : Table) (m : MeaningCode) (n : ℕ) (s : State) → ((c category : ℕ) → m ≡ CharMeaning c category → ⊥) → ((place : ℕ) → m ≡ Builtin place → ⊥) → digest_meaning (meaning_at names m) n s ≡ fail MISPLACED [] s
+misplaced names (CharMeaning c category) n s char builtin = absurd (char c category refl)
+misplaced names (Builtin place) n s char builtin = absurd (builtin place refl)
+misplaced names m n s char builtin = refl
 
 pub lawful_left : (t : Token) (done : Executed) → Lawful (digest_left t done)
 lawful_left t Yes = lawful_plain (give []) (plain_give [])

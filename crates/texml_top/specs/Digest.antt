@@ -2,7 +2,7 @@
 use Rattle.std.specs.Prelude.{ℕ, ◌==◌, ◌||◌, Bool, List, [], ◌∷◌, if◌then◌else◌}
 use Rattle.std.specs.Char.{encode_utf8}
 use Rattle.texml_token.specs.Token.{Token}
-use Rattle.texml_token.specs.declared.category.TheConstants.{BEGIN_GROUP, END_GROUP, SPACE, LETTER, OTHER}
+use Rattle.texml_token.specs.declared.category.TheConstants as category
 use Rattle.texml_token.specs.declared.fault_code.TheConstants.{MISPLACED}
 use Rattle.texml_scope.specs.Texts.{Meaning}
 use Rattle.texml_scope.specs.declared.values.MeaningOf.TheVariants.{Builtin, Char as CharMeaning}
@@ -21,6 +21,8 @@ use Rattle.texml_assign.specs.NewCommand.{starred}
 use Rattle.texml_assign.specs.Sets.{begin_kind, end_kind}
 use Rattle.texml_assign.specs.Execute.{execute}
 use Rattle.texml_top.specs.declared.table.TheConstants.{PARAGRAPH, BREAK, CODE}
+use Rattle.texml_top.specs.declared.digest.Word.{Word}
+use Rattle.texml_top.specs.declared.digest.Word.TheVariants.{ParagraphEnd, Space, Verb, Newline, Misplaced}
 use Rattle.texml_top.specs.declared.gather.Gathered.{Gathered}
 use Rattle.texml_top.specs.Gather.{nothing_yet, all_of, add_all}
 use Rattle.texml_top.specs.Verb.{verb}
@@ -35,14 +37,14 @@ none command = do
 
 -- letters and others give their character as a text
 abbrev pub is_text : ℕ → Bool
-is_text category = category == LETTER || category == OTHER
+is_text kind = kind == category.LETTER || kind == category.OTHER
 
 abbrev pub digest_char : ℕ → ℕ → Reading (List Op)
-digest_char c category =
-    if category == SPACE then give (op.Space ∷ [])
-    else if is_text category then give (op.Text (encode_utf8 c) ∷ [])
-    else if category == BEGIN_GROUP then none (begin_kind Brace)
-    else if category == END_GROUP then none (end_kind Brace)
+digest_char c kind =
+    if kind == category.SPACE then give (op.Space ∷ [])
+    else if is_text kind then give (op.Text (encode_utf8 c) ∷ [])
+    else if kind == category.BEGIN_GROUP then none (begin_kind Brace)
+    else if kind == category.END_GROUP then none (end_kind Brace)
     else fail MISPLACED []
 
 -- characters as they stand
@@ -58,13 +60,24 @@ newline = do
   read_optional
   give (op.Open BREAK [] ∷ op.Close BREAK ∷ [])
 
+-- what a builtin does that is no command
+abbrev pub word_at : ℕ → Word
+word_at place =
+    if place == builtins.PAR then ParagraphEnd
+    else if place == builtins.SPACE then Space
+    else if place == builtins.VERB then Verb
+    else if place == builtins.NEWLINE then Newline
+    else Misplaced
+
+abbrev pub digest_word : Word → ByDepth (List Op)
+digest_word ParagraphEnd n = give (op.CloseIf PARAGRAPH ∷ [])
+digest_word Space n = give (op.Space ∷ [])
+digest_word Verb n = code n
+digest_word Newline n = newline
+digest_word Misplaced n = fail MISPLACED []
+
 abbrev pub digest_builtin : ℕ → ByDepth (List Op)
-digest_builtin place n =
-    if place == builtins.PAR then give (op.CloseIf PARAGRAPH ∷ [])
-    else if place == builtins.SPACE then give (op.Space ∷ [])
-    else if place == builtins.VERB then code n
-    else if place == builtins.NEWLINE then newline
-    else fail MISPLACED []
+digest_builtin place = digest_word (word_at place)
 
 -- a token by its meaning, so that a name let to a brace begins a group too
 abbrev pub digest_meaning : Meaning → ByDepth (List Op)

@@ -12,7 +12,7 @@ ghost use Rattle.texml_assign.specs.Doing.{Does};
 ghost use Rattle.texml_assign.specs.Loop.{On, loops};
 ghost use Rattle.texml_assign.specs.declared.executing.Executed.TheVariants.{NotMine};
 ghost use Rattle.texml_top.specs.Gather.{nothing_yet, all_of, ops_of};
-ghost use Rattle.texml_top.specs.Digest.{digestion, digest_turn as spec_digest_turn, digest_token as spec_digest_token, digest_left as spec_digest_left, digest_meaning as spec_digest_meaning, digest_builtin as spec_digest_builtin, digest_char as spec_digest_char, code as spec_code, newline as spec_newline};
+ghost use Rattle.texml_top.specs.Digest.{digestion, digest_turn as spec_digest_turn, digest_token as spec_digest_token, digest_left as spec_digest_left, digest_meaning as spec_digest_meaning, word_at as spec_word_at, digest_word as spec_digest_word, digest_char as spec_digest_char, code as spec_code, newline as spec_newline};
 
 use crate::gather::{Gathered, Piece};
 use crate::verb::verb;
@@ -27,6 +27,17 @@ use texml_tree::Ops;
 use texml_watch::Teller;
 
 const STAR: u32 = 42;
+
+/// What a builtin does that is no command: it ends a paragraph, is a space, reads characters as they stand, ends a line, or
+/// may not stand where it is digested.
+#[derive(Clone, Copy, Debug, PartialEq, Eq)]
+pub enum Word {
+    ParagraphEnd,
+    Space,
+    Verb,
+    Newline,
+    Misplaced,
+}
 
 /// The operations of all that an engine gives, up to the end of what is to be read.
 ///
@@ -160,7 +171,7 @@ fn digest_meaning<F: Files, T: Teller>(
 {
     match meaning {
         Meaning::Char(code, category) => digest_char(engine, *code, *category),
-        Meaning::Builtin(place) => digest_builtin(alloc, engine, files, tell, *place),
+        Meaning::Builtin(place) => digest_word(alloc, engine, files, tell, word_at(*place)),
         _ => Err(engine.bare_fault(fault_code::MISPLACED)),
     }
 }
@@ -190,26 +201,39 @@ fn digest_char(engine: &mut Engine, code: u32, category: u8) -> Result<Piece, St
     }
 }
 
-// Does what a builtin that is no command asks for, by its place.
-fn digest_builtin<F: Files, T: Teller>(
+// Does what a builtin that is no command asks for.
+fn digest_word<F: Files, T: Teller>(
     alloc: Global,
     engine: &mut Engine,
     files: &mut F,
     tell: &mut T,
-    place: u16,
+    word: Word,
 ) -> Result<Piece, Stop>
     requires running { engine.old.stop ≡ None }
     requires sound { Sound engine.old }
-    ensures does { Does (hears T.wanting T.heard) (hears_part T.wanting T.part) (spec_digest_builtin place) (ok_at ops_of result) engine.old engine.new
+    ensures does { Does (hears T.wanting T.heard) (hears_part T.wanting T.part) (spec_digest_word word) (ok_at ops_of result) engine.old engine.new
         (outside (F.faults files.old) (T.faults tell.old)) (outside (F.faults files.new) (T.faults tell.new)) tell.old tell.new }
     ensures files { files.new ≡ files.old }
 {
+    match word {
+        Word::ParagraphEnd => Ok(Piece::ParagraphEnd),
+        Word::Space => Ok(Piece::Space),
+        Word::Verb => code(alloc, engine, files, tell),
+        Word::Newline => newline(engine, files, tell),
+        Word::Misplaced => Err(engine.bare_fault(fault_code::MISPLACED)),
+    }
+}
+
+// What the builtin of a place does.
+fn word_at(place: u16) -> Word
+    ensures { result ≡ spec_word_at place }
+{
     match place {
-        PAR => Ok(Piece::ParagraphEnd),
-        SPACE => Ok(Piece::Space),
-        VERB => code(alloc, engine, files, tell),
-        NEWLINE => newline(engine, files, tell),
-        _ => Err(engine.bare_fault(fault_code::MISPLACED)),
+        PAR => Word::ParagraphEnd,
+        SPACE => Word::Space,
+        VERB => Word::Verb,
+        NEWLINE => Word::Newline,
+        _ => Word::Misplaced,
     }
 }
 
