@@ -17,6 +17,7 @@ abbrev pub exit_code : Status → ℕ
 exit_code status.Done = 0
 exit_code (status.Tex f) = 1
 exit_code (status.Usage k) = 2
+exit_code (status.Model f) = 4
 exit_code (status.Limit n) = 5
 exit_code status.ReadFault = 6
 exit_code status.WriteFault = 7

@@ -37,6 +37,7 @@ fn exit_code_of(status: &Status) -> u8
         Status::Done => 0,
         Status::Tex(_) => 1,
         Status::Usage(_) => 2,
+        Status::Model(_) => 4,
         Status::Limit(_) => 5,
         Status::ReadFault => 6,
         Status::WriteFault => 7,

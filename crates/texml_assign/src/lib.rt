@@ -18,4 +18,5 @@ mod table;
 
 pub use executing::{Executed, execute};
 pub use meaning::meaning_of;
+pub use operands::{next_token, token_or_end};
 pub use sets::{begin_group, end_group};

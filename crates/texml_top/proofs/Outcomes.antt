@@ -8,9 +8,9 @@ use Rattle.texml_top.specs.Request.{Request, asked}
 use Rattle.texml_top.specs.declared.request.Command.{Command}
 use Rattle.texml_top.specs.declared.request.Command.TheVariants.{Convert, Expand}
 use Rattle.texml_top.specs.Digest.{digests}
-use Rattle.texml_top.specs.Page.{page}
-use Rattle.texml_top.specs.Outcome.{Outcome, refused, text_of, first_state, status_of, IsOutcomeBy, IsOutcomeFrom, IsOutcomeOf, IsOutcomeAsked, OneOutcome, WithOutcome, OfOutcome, FromState}
-use Rattle.texml_top.specs.declared.material.Material.{Material}
+use Rattle.texml_top.specs.Document.{document}
+use Rattle.texml_top.specs.Outcome.{Outcome, refused, page_outcome, text_of, first_state, status_of, IsOutcomeBy, IsOutcomeFrom, IsOutcomeOf, IsOutcomeAsked, OneOutcome, WithOutcome, OfOutcome, FromState}
+use Rattle.texml_tree.specs.declared.ops.Op.{Op}
 use Rattle.texml_top.specs.declared.status.Status.{Status}
 use Rattle.texml_top.specs.declared.status.Status.TheVariants as status
 use Rattle.texml_expand.proofs.Order.{IsWithin}
@@ -18,56 +18,56 @@ use Rattle.texml_assign.proofs.Readings.{decides_at, decides_one}
 use Rattle.texml_top.proofs.Digesting.{lawful_digests}
 
 -- the outcome that an answer of digestion makes
-pub outcome_by : Command → Answer (List Material) → Outcome
-outcome_by Convert (Done material s gains) = record { status = status.Done; bytes = page material; records = gains.records }
+pub outcome_by : Command → Answer (List Op) → Outcome
+outcome_by Convert (Done ops s gains) = page_outcome (document ops) gains.records
 outcome_by Convert (Ended e gains) = record { status = status_of e; bytes = []; records = gains.records }
 outcome_by Convert (Unfinished gains) = refused status.NoMemory
-outcome_by Expand (Done material s gains) = record { status = status.Done; bytes = trace gains.records; records = gains.records }
+outcome_by Expand (Done ops s gains) = record { status = status.Done; bytes = trace gains.records; records = gains.records }
 outcome_by Expand (Ended e gains) = record { status = status_of e; bytes = trace gains.records; records = gains.records }
 outcome_by Expand (Unfinished gains) = refused status.NoMemory
 
-pub is_by : (command : Command) (a : Answer (List Material)) → IsDecided a → IsOutcomeBy command a (outcome_by command a)
+pub is_by : (command : Command) (a : Answer (List Op)) → IsDecided a → IsOutcomeBy command a (outcome_by command a)
 unfolding outcome_by
-is_by Convert (Done material s gains) d = refl
+is_by Convert (Done ops s gains) d = refl
 is_by Convert (Ended e gains) d = refl
 is_by Convert (Unfinished gains) d = d
-is_by Expand (Done material s gains) d = refl
+is_by Expand (Done ops s gains) d = refl
 is_by Expand (Ended e gains) d = refl
 is_by Expand (Unfinished gains) d = d
 
-one_by : (command : Command) (a : Answer (List Material)) (all : Outcome) → IsOutcomeBy command a all → all ≡ outcome_by command a
+one_by : (command : Command) (a : Answer (List Op)) (all : Outcome) → IsOutcomeBy command a all → all ≡ outcome_by command a
 unfolding outcome_by
-one_by Convert (Done material s gains) all e = e
+one_by Convert (Done ops s gains) all e = e
 one_by Convert (Ended end gains) all e = e
 one_by Convert (Unfinished gains) all e = absurd e
-one_by Expand (Done material s gains) all e = e
+one_by Expand (Done ops s gains) all e = e
 one_by Expand (Ended end gains) all e = e
 one_by Expand (Unfinished gains) all e = absurd e
 
 -- expand writes the trace of all records
-pub expand_bytes : (a : Answer (List Material)) → IsDecided a → (outcome_by Expand a).bytes ≡ trace (added a).records
+pub expand_bytes : (a : Answer (List Op)) → IsDecided a → (outcome_by Expand a).bytes ≡ trace (added a).records
 unfolding outcome_by
-expand_bytes (Done material s gains) d = refl
+expand_bytes (Done ops s gains) d = refl
 expand_bytes (Ended e gains) d = refl
 expand_bytes (Unfinished gains) d = absurd d
 
-pub expand_records : (a : Answer (List Material)) → IsDecided a → (outcome_by Expand a).records ≡ (added a).records
+pub expand_records : (a : Answer (List Op)) → IsDecided a → (outcome_by Expand a).records ≡ (added a).records
 unfolding outcome_by
-expand_records (Done material s gains) d = refl
+expand_records (Done ops s gains) d = refl
 expand_records (Ended e gains) d = refl
 expand_records (Unfinished gains) d = absurd d
 
 -- an outcome by an answer that some depth gives
-pub is_from : (command : Command) (s : State) (a x : Answer (List Material)) (all : Outcome) → DecidesOn (digests [] s) a → a ≡ x → IsOutcomeBy command x all → IsOutcomeFrom command s all
+pub is_from : (command : Command) (s : State) (a x : Answer (List Op)) (all : Outcome) → DecidesOn (digests s) a → a ≡ x → IsOutcomeBy command x all → IsOutcomeFrom command s all
 is_from command s a x all g e h = record { answer = a; given = g; is = subst (λ y. IsOutcomeBy command y all) (sym e) h }
 
 -- the one answer of digestion, from a state in which no more expansions have begun than may
-pub answer_from : (s : State) → IsWithin s → Answer (List Material)
-answer_from s w = let h = (lawful_digests []).settles s w in digests [] s h.at
+pub answer_from : (s : State) → IsWithin s → Answer (List Op)
+answer_from s w = let h = lawful_digests.settles s w in digests s h.at
 
-pub decides_from : (s : State) (w : IsWithin s) → DecidesOn (digests [] s) (answer_from s w)
+pub decides_from : (s : State) (w : IsWithin s) → DecidesOn (digests s) (answer_from s w)
 unfolding answer_from
-decides_from s w = decides_at (digests [] s) ((lawful_digests []).settles s w)
+decides_from s w = decides_at (digests s) (lawful_digests.settles s w)
 
 pub outcome_from : Command → (s : State) → IsWithin s → Outcome
 outcome_from command s w = outcome_by command (answer_from s w)
@@ -78,7 +78,7 @@ is_outcome_from command s w = is_from command s (answer_from s w) (answer_from s
 
 one_from : (command : Command) (s : State) (w : IsWithin s) (all : Outcome) → IsOutcomeFrom command s all → all ≡ outcome_from command s w
 unfolding outcome_from
-one_from command s w all h = one_by command h.answer all h.is ∙ ap (outcome_by command) (decides_one (digests [] s) ((lawful_digests []).mono s) h.answer (answer_from s w) h.given (decides_from s w))
+one_from command s w all h = one_by command h.answer all h.is ∙ ap (outcome_by command) (decides_one (digests s) (lawful_digests.mono s) h.answer (answer_from s w) h.given (decides_from s w))
 
 one_of : (request : Request) (found : Result (List ℕ) Status) → (all : Outcome) × IsOutcomeOf request found all × ((other : Outcome) → IsOutcomeOf request found other → other ≡ all)
 one_of request (Ok text) =

@@ -6,49 +6,46 @@ use Rattle.texml_watch.specs.declared.record.Record.{Record}
 use Rattle.texml_expand.specs.State.{Answer, Done, Ended, Unfinished, Tex, Limit, fault_at, added}
 use Rattle.texml_top.specs.Digest.{digests}
 use Rattle.texml_top.specs.Request.{asked}
-use Rattle.texml_top.specs.declared.request.Command.TheVariants.{Convert, Expand}
+use Rattle.texml_top.specs.declared.request.Command.TheVariants.{Expand}
 use Rattle.texml_top.specs.Outcome.{first_state, IsOutcomeFrom, IsOutcome}
-use Rattle.texml_top.specs.declared.material.Material.{Material}
-use Rattle.texml_top.specs.declared.material.Material.TheVariants.{Char, Par}
+use Rattle.texml_tree.specs.declared.ops.Op.{Op}
+use Rattle.texml_tree.specs.declared.ops.Op.TheVariants.{Open, Close, CloseIf, Space, Text}
+use Rattle.texml_top.specs.declared.table.TheConstants.{PARAGRAPH, BREAK, CODE}
 use Rattle.texml_top.specs.declared.status.Status.TheVariants as status
 
-read : ℕ → List ℕ → ℕ → Answer (List Material)
-read limit text n = digests [] (first_state (codes "f") limit text) n
+read : ℕ → List ℕ → ℕ → Answer (List Op)
+read limit text n = digests (first_state (codes "f") limit text) n
 
--- what digestion put into the document
-document : Answer (List Material) → Option (List Material)
-document (Done material s gains) = Some material
+-- the operations that digestion gave
+document : Answer (List Op) → Option (List Op)
+document (Done ops s gains) = Some ops
 document (Ended e gains) = None
 document (Unfinished gains) = None
 
 -- a macro is defined and expanded; blanks behind a name are skipped
-defined : document (read 9 (codes "\\def\\a{x}\\a") 9) ≡ Some (Char 120 ∷ [])
+defined : document (read 9 (codes "\\def\\a{x}\\a") 9) ≡ Some (Text (codes "x") ∷ [])
 unfolding read document lib.Utf8.encode
 defined = refl
 
 -- the old meaning is back behind a group
-undone : document (read 9 (codes "\\def\\a{x}{\\def\\a{y}\\a}\\a") 9) ≡ Some (Char 121 ∷ Char 120 ∷ [])
+undone : document (read 9 (codes "\\def\\a{x}{\\def\\a{y}\\a}\\a") 9) ≡ Some (Text (codes "yx") ∷ [])
 unfolding read document lib.Utf8.encode
 undone = refl
 
--- the end of a line is a space, and a blank line ends a paragraph
-blank_line : document (read 9 (codes "a\n\nb") 9) ≡ Some (Char 97 ∷ Char 32 ∷ Par ∷ Char 98 ∷ Char 32 ∷ [])
+-- the end of a line is a space, which goes on a text, and a blank line ends a paragraph
+blank_line : document (read 9 (codes "\\ a\n\nb") 9) ≡ Some (Space ∷ Text (codes "a ") ∷ CloseIf PARAGRAPH ∷ Text (codes "b ") ∷ [])
 unfolding read document lib.Utf8.encode
 blank_line = refl
+
+-- characters as they stand, and the end of a line with a star and an argument behind it
+verb : document (read 9 (codes "a\\verb*+$ %+b\\\\*[2pt] c") 20) ≡ Some (Text (codes "a") ∷ Open CODE [] ∷ Text (codes "$ %") ∷ Close CODE ∷ Text (codes "b") ∷ Open BREAK [] ∷ Close BREAK ∷ Space ∷ Text (codes "c ") ∷ [])
+unfolding read document lib.Utf8.encode
+verb = refl
 
 -- the end of a group that wasn't begun
 no_group : read 9 (codes "}") 9 ≡ Ended (Tex (fault_at NO_GROUP [] (record { file = codes "f"; line = 0 }))) (record { records = [] })
 unfolding read lib.Utf8.encode
 no_group = refl
-
--- the page of a macro
-page_of_macro : IsOutcomeFrom Convert (first_state (codes "f") 9 (codes "\\def\\a{x}\\a")) (record {
-  status = status.Done;
-  bytes = codes "<!DOCTYPE html>\n<html><head><meta charset=\"utf-8\"><title>untitled</title></head><body><main id=\"x0\"><p>x</p></main></body></html>\n";
-  records = record { token = codes "\\a"; put = codes "x"; file = [] } ∷ [];
-})
-unfolding read lib.Utf8.encode
-page_of_macro = record { answer = read 9 (codes "\\def\\a{x}\\a") 9; given = record { depth = 9; is = refl; decided = tt }; is = refl }
 
 -- the trace of a macro that gives itself back, up to the limit
 trace_to_limit : IsOutcomeFrom Expand (first_state (codes "f") 2 (codes "\\def\\x{\\x}\\x")) (record {

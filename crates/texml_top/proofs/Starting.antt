@@ -30,6 +30,7 @@ refused : (name : List ℕ) (limit : ℕ) (found : Result (List ℕ) Status) (co
 refused name limit found code about place status.Done e h = h
 refused name limit found code about place (status.Usage k) e h = h
 refused name limit found code about place (status.Tex f) e h = rw h e
+refused name limit found code about place (status.Model f) e h = h
 refused name limit found code about place (status.Limit n) e h = h
 refused name limit found code about place status.ReadFault e h = h
 refused name limit found code about place status.WriteFault e h = h

@@ -1,74 +1,113 @@
--- Digestion: what a text puts into the document (The TeXbook, chapters 7, 20 and 24).
-use Rattle.std.specs.Prelude.{ℕ, ◌==◌, ◌||◌, Bool, List, [], ◌∷◌, ◌++◌, if◌then◌else◌}
+-- Digestion: the operations that a text gives (The TeXbook, chapters 7, 20 and 24).
+use Rattle.std.specs.Prelude.{ℕ, ◌==◌, ◌||◌, Bool, List, [], ◌∷◌, if◌then◌else◌}
+use Rattle.std.specs.Char.{encode_utf8}
 use Rattle.texml_token.specs.Token.{Token}
-use Rattle.texml_token.specs.declared.category.TheConstants.{BEGIN_GROUP, END_GROUP, SPACE, LETTER, OTHER}
+use Rattle.texml_token.specs.declared.category.TheConstants as category
 use Rattle.texml_token.specs.declared.fault_code.TheConstants.{MISPLACED}
 use Rattle.texml_scope.specs.Texts.{Meaning}
 use Rattle.texml_scope.specs.declared.values.MeaningOf.TheVariants.{Builtin, Char as CharMeaning}
 use Rattle.texml_scope.specs.declared.values.KindOf.TheVariants.{Brace}
-use Rattle.texml_scope.specs.declared.builtins.TheConstants.{PAR}
+use Rattle.texml_scope.specs.declared.builtins.TheConstants as builtins
+use Rattle.texml_tree.specs.declared.ops.Op.{Op}
+use Rattle.texml_tree.specs.declared.ops.Op.TheVariants as op
 use Rattle.texml_expand.specs.State.{State, Answer, Reading, ◌>>=◌, ◌>>◌, give, fail}
 use Rattle.texml_expand.specs.Expand.{level}
+use Rattle.texml_expand.specs.Arguments.{read_optional}
 use Rattle.texml_assign.specs.declared.executing.Executed.{Executed}
 use Rattle.texml_assign.specs.declared.executing.Executed.TheVariants.{Yes, NotMine}
 use Rattle.texml_assign.specs.Loop.{ByDepth, Next, On, Loop, loops}
 use Rattle.texml_assign.specs.Meaning.{means}
+use Rattle.texml_assign.specs.NewCommand.{starred}
 use Rattle.texml_assign.specs.Sets.{begin_kind, end_kind}
 use Rattle.texml_assign.specs.Execute.{execute}
-use Rattle.texml_top.specs.declared.material.Material.{Material}
-use Rattle.texml_top.specs.declared.material.Material.TheVariants as material
+use Rattle.texml_top.specs.declared.table.TheConstants.{PARAGRAPH, BREAK, CODE}
+use Rattle.texml_top.specs.declared.digest.Word.{Word}
+use Rattle.texml_top.specs.declared.digest.Word.TheVariants.{ParagraphEnd, Space, Verb, Newline, Misplaced}
+use Rattle.texml_top.specs.declared.gather.Gathered.{Gathered}
+use Rattle.texml_top.specs.Gather.{nothing_yet, all_of, add_all}
+use Rattle.texml_top.specs.Verb.{verb}
 
 -- Tokens that are no commands
 
 -- nothing is put into the document
-abbrev pub none : Reading (Unit {0}) → Reading (List Material)
+abbrev pub none : Reading (Unit {0}) → Reading (List Op)
 none command = do
   command
   give []
 
--- spaces, letters and others have a place in a text
+-- letters and others give their character as a text
 abbrev pub is_text : ℕ → Bool
-is_text category = category == SPACE || category == LETTER || category == OTHER
+is_text kind = kind == category.LETTER || kind == category.OTHER
 
-abbrev pub digest_char : ℕ → ℕ → Reading (List Material)
-digest_char c category =
-    if is_text category then give (material.Char c ∷ [])
-    else if category == BEGIN_GROUP then none (begin_kind Brace)
-    else if category == END_GROUP then none (end_kind Brace)
+abbrev pub digest_char : ℕ → ℕ → Reading (List Op)
+digest_char c kind =
+    if kind == category.SPACE then give (op.Space ∷ [])
+    else if is_text kind then give (op.Text (encode_utf8 c) ∷ [])
+    else if kind == category.BEGIN_GROUP then none (begin_kind Brace)
+    else if kind == category.END_GROUP then none (end_kind Brace)
     else fail MISPLACED []
 
-abbrev pub digest_builtin : ℕ → Reading (List Material)
-digest_builtin place = if place == PAR then give (material.Par ∷ []) else fail MISPLACED []
+-- characters as they stand
+abbrev pub code : ByDepth (List Op)
+code n = do
+  text ← verb n
+  give (op.Open CODE [] ∷ op.Text text ∷ op.Close CODE ∷ [])
+
+-- a star and an argument in brackets behind the end of a line are dropped
+abbrev pub newline : Reading (List Op)
+newline = do
+  starred
+  read_optional
+  give (op.Open BREAK [] ∷ op.Close BREAK ∷ [])
+
+-- what a builtin does that is no command
+abbrev pub word_at : ℕ → Word
+word_at place =
+    if place == builtins.PAR then ParagraphEnd
+    else if place == builtins.SPACE then Space
+    else if place == builtins.VERB then Verb
+    else if place == builtins.NEWLINE then Newline
+    else Misplaced
+
+abbrev pub digest_word : Word → ByDepth (List Op)
+digest_word ParagraphEnd n = give (op.CloseIf PARAGRAPH ∷ [])
+digest_word Space n = give (op.Space ∷ [])
+digest_word Verb n = code n
+digest_word Newline n = newline
+digest_word Misplaced n = fail MISPLACED []
+
+abbrev pub digest_builtin : ℕ → ByDepth (List Op)
+digest_builtin place = digest_word (word_at place)
 
 -- a token by its meaning, so that a name let to a brace begins a group too
-abbrev pub digest_meaning : Meaning → Reading (List Material)
-digest_meaning (CharMeaning c category) = digest_char c category
-digest_meaning (Builtin place) = digest_builtin place
-digest_meaning m = fail MISPLACED []
+abbrev pub digest_meaning : Meaning → ByDepth (List Op)
+digest_meaning (CharMeaning c category) n = digest_char c category
+digest_meaning (Builtin place) n = digest_builtin place n
+digest_meaning m n = fail MISPLACED []
 
 -- Tokens
 
 -- a token that was executed puts nothing into the document; another one is digested
-abbrev pub digest_left : Token → Executed → Reading (List Material)
-digest_left t Yes = give []
-digest_left t NotMine = λ s. digest_meaning (means s.world t) s
+abbrev pub digest_left : Token → Executed → ByDepth (List Op)
+digest_left t Yes n = give []
+digest_left t NotMine n = λ s. digest_meaning (means s.world t) n s
 
-abbrev pub digest_token : Token → ByDepth (List Material)
+abbrev pub digest_token : Token → ByDepth (List Op)
 digest_token t n = do
   done ← execute t n
-  digest_left t done
+  digest_left t done n
 
 -- Texts
 
--- a token adds to what was put into the document before
-abbrev pub digest_turn : List Material → Token → ByDepth (Next (List Material) (List Material))
+-- a token adds to what was gathered before
+abbrev pub digest_turn : Gathered → Token → ByDepth (Next Gathered (List Op))
 digest_turn seen t n = do
-  m ← digest_token t n
-  give (On (seen ++ m))
+  ops ← digest_token t n
+  give (On (add_all seen ops))
 
-abbrev pub digestion : Loop (List Material) (List Material)
-digestion = record { source = λ n. (level n).fetch; turn = digest_turn; end = give }
+abbrev pub digestion : Loop Gathered (List Op)
+digestion = record { source = λ n. (level n).fetch; turn = digest_turn; end = λ seen. give (all_of seen) }
 
--- what all tokens from here on put into the document, behind what was put before; calls are nested at most n deep
-abbrev pub digests : List Material → State → ℕ → Answer (List Material)
-digests seen s n = loops digestion seen n s
+-- the operations of all tokens from here on; calls are nested at most n deep
+abbrev pub digests : State → ℕ → Answer (List Op)
+digests s n = loops digestion nothing_yet n s

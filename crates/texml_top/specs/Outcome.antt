@@ -14,8 +14,9 @@ use Rattle.texml_top.specs.Request.{Request, asked}
 use Rattle.texml_top.specs.declared.request.Command.{Command}
 use Rattle.texml_top.specs.declared.request.Command.TheVariants.{Convert, Expand}
 use Rattle.texml_top.specs.Digest.{digests}
-use Rattle.texml_top.specs.Page.{page}
-use Rattle.texml_top.specs.declared.material.Material.{Material}
+use Rattle.texml_top.specs.Document.{document}
+use Rattle.texml_tree.specs.declared.ops.Op.{Op}
+use Rattle.texml_tree.specs.declared.model_fault.ModelFault.{ModelFault}
 use Rattle.texml_top.specs.declared.status.Status.{Status}
 use Rattle.texml_top.specs.declared.status.Status.TheVariants as status
 
@@ -54,19 +55,24 @@ abbrev pub status_of : End → Status
 status_of (Tex f) = status.Tex f
 status_of (Limit n) = status.Limit n
 
+-- operations that make a document end with its page; the others end with what is wrong with them first
+abbrev pub page_outcome : Result (List ℕ) ModelFault → List Record → Outcome
+page_outcome (Ok page) records = record { status = status.Done; bytes = page; records = records }
+page_outcome (Err f) records = record { status = status.Model f; bytes = []; records = records }
+
 -- by what digestion answers: convert writes the page of it, and nothing at an early end; expand writes the trace in any case
-abbrev pub IsOutcomeBy : Command → Answer (List Material) → Outcome → Type 0
-IsOutcomeBy Convert (Done material s gains) all = all ≡ record { status = status.Done; bytes = page material; records = gains.records }
+abbrev pub IsOutcomeBy : Command → Answer (List Op) → Outcome → Type 0
+IsOutcomeBy Convert (Done ops s gains) all = all ≡ page_outcome (document ops) gains.records
 IsOutcomeBy Convert (Ended e gains) all = all ≡ record { status = status_of e; bytes = []; records = gains.records }
 IsOutcomeBy Convert (Unfinished gains) all = ⊥
-IsOutcomeBy Expand (Done material s gains) all = all ≡ record { status = status.Done; bytes = trace gains.records; records = gains.records }
+IsOutcomeBy Expand (Done ops s gains) all = all ≡ record { status = status.Done; bytes = trace gains.records; records = gains.records }
 IsOutcomeBy Expand (Ended e gains) all = all ≡ record { status = status_of e; bytes = trace gains.records; records = gains.records }
 IsOutcomeBy Expand (Unfinished gains) all = ⊥
 
 -- the outcome of a command from a state on
 pub record IsOutcomeFrom (command : Command) (s : State) (all : Outcome) : Type 0 where
-  pub answer : Answer (List Material)
-  pub given : DecidesOn (digests [] s) answer
+  pub answer : Answer (List Op)
+  pub given : DecidesOn (digests s) answer
   pub is : IsOutcomeBy command answer all
 
 abbrev pub IsOutcomeOf : Request → Result (List ℕ) Status → Outcome → Type 0

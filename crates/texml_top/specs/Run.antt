@@ -2,16 +2,20 @@
 use Rattle.std.specs.Prelude.{◌≡◌, ◌≢◌, ℕ, List, [], ◌++◌, take, Result, Ok, Err}
 use Rattle.texml_base.specs.Outside.{Shelf, Ink, inked}
 use Rattle.texml_base.specs.Rising.{Rose}
+use Rattle.texml_tree.specs.declared.model_fault.ModelFault.{ModelFault}
 use Rattle.texml_watch.specs.declared.record.Record.{Record}
 use Rattle.texml_watch.specs.Trace.{trace}
 use Rattle.texml_expand.specs.declared.stop.Stop.{Stop}
 use Rattle.texml_expand.specs.declared.stop.Stop.TheVariants as stop
+use Rattle.texml_build.specs.declared.fault.BuildFault.{BuildFault}
+use Rattle.texml_build.specs.declared.fault.BuildFault.TheVariants as build
 use Rattle.texml_top.specs.Request.{Request}
 use Rattle.texml_top.specs.declared.request.Command.{Command}
 use Rattle.texml_top.specs.declared.request.Command.TheVariants.{Convert, Expand}
+use Rattle.texml_top.specs.Document.{IsPage}
 use Rattle.texml_top.specs.Outcome.{Outcome}
 use Rattle.texml_top.specs.declared.status.Status.{Status}
-use Rattle.texml_top.specs.declared.status.Status.TheVariants.{Done, Usage, Tex, Limit, ReadFault, WriteFault, NoMemory}
+use Rattle.texml_top.specs.declared.status.Status.TheVariants.{Done, Usage, Tex, Model, Limit, ReadFault, WriteFault, NoMemory}
 
 -- the status of a run that an engine's stop ends
 abbrev pub stopped : Stop → Status
@@ -20,6 +24,11 @@ stopped (stop.Limit n) = Limit n
 stopped stop.ReadFailed = ReadFault
 stopped stop.TellFailed = WriteFault
 stopped stop.NoMemory = NoMemory
+
+-- the status of a run whose document can't be built
+abbrev pub unbuilt : BuildFault → Status
+unbuilt (build.Model f) = Model f
+unbuilt build.NoMemory = NoMemory
 
 -- the status is the outcome's, and its bytes were written
 abbrev pub EndsAs : Status → Outcome → Ink → Ink → Type 0
@@ -34,6 +43,7 @@ abbrev pub MayEnd : Status → Outcome → Ink → Ink → Type 0
 MayEnd Done all old new = EndsAs Done all old new
 MayEnd (Usage k) all old new = EndsAs (Usage k) all old new
 MayEnd (Tex f) all old new = EndsAs (Tex f) all old new
+MayEnd (Model f) all old new = EndsAs (Model f) all old new
 MayEnd (Limit n) all old new = EndsAs (Limit n) all old new
 MayEnd ReadFault all old new = WroteFirst all.bytes old new
 MayEnd WriteFault all old new = (all.bytes ≢ []) × WroteFirst all.bytes old new
@@ -75,6 +85,25 @@ WritesLate Expand _ old new = Unit {0}
 abbrev pub LateAsked : Result Request ℕ → Status → Ink → Ink → Type 0
 LateAsked (Ok request) status old new = WritesLate request.command status old new
 LateAsked (Err which) status old new = new ≡ old
+
+-- how the writing of a page may end: the page was written, a first part of it where the sink failed, and else nothing
+abbrev pub EndsPage : Status → Result (List ℕ) ModelFault → Ink → Ink → Type 0
+EndsPage Done page old new = (bytes : List ℕ) × (page ≡ Ok bytes) × (new ≡ inked old bytes)
+EndsPage (Model f) page old new = (page ≡ Err f) × (new ≡ old)
+EndsPage WriteFault page old new = (bytes : List ℕ) × (page ≡ Ok bytes) × WroteFirst bytes old new
+EndsPage NoMemory page old new = new ≡ old
+EndsPage _ page old new = ⊥
+
+-- what convert wrote is the page of a valid tree whose references are linked, or a first part of it where the sink failed
+abbrev pub WritesDocument : Command → Status → Ink → Ink → Type 0
+WritesDocument Convert Done old new = (bytes : List ℕ) × IsPage bytes × (new ≡ inked old bytes)
+WritesDocument Convert WriteFault old new = (bytes : List ℕ) × IsPage bytes × WroteFirst bytes old new
+WritesDocument Convert _ old new = Unit {0}
+WritesDocument Expand _ old new = Unit {0}
+
+abbrev pub DocumentAsked : Result Request ℕ → Status → Ink → Ink → Type 0
+DocumentAsked (Ok request) status old new = WritesDocument request.command status old new
+DocumentAsked (Err which) status old new = Unit {0}
 
 -- convert begins to write only what has no fault
 abbrev pub WritesPage : Command → Status → Outcome → Type 0

@@ -1,28 +1,45 @@
-// Digests what an engine fetches: what it puts into the document.
-ghost use Rattle.std.specs.Prelude.{◌≡◌, ◌++◌, [], length, None, OnOk, option_to_list};
+//! Digests what an engine fetches: the operations that it gives.
+ghost use Rattle.std.specs.Prelude.{◌≡◌, length, None, OnOk};
 ghost use Rattle.std.specs.Char.{IsScalar};
 ghost use Rattle.texml_token.specs.Numbers.{token_at, TokenWithin};
 ghost use Rattle.texml_scope.specs.Numbers.{meaning_at, MeaningWithin};
+ghost use Rattle.texml_expand.specs.State.{give};
 ghost use Rattle.texml_expand.specs.Contract.{Silent, outside, stop_after};
 ghost use Rattle.texml_expand.specs.Hearing.{hears, hears_part};
 ghost use Rattle.texml_expand.specs.Held.{state_of, Sound, Kept, ok_at};
 ghost use Rattle.texml_assign.specs.Advance.{Advances};
 ghost use Rattle.texml_assign.specs.Doing.{Does};
-ghost use Rattle.texml_assign.specs.Loop.{loops};
+ghost use Rattle.texml_assign.specs.Loop.{On, loops};
 ghost use Rattle.texml_assign.specs.declared.executing.Executed.TheVariants.{NotMine};
-ghost use Rattle.texml_top.specs.Digest.{digestion, digest_left as spec_digest_left, digest_meaning as spec_digest_meaning, digest_builtin as spec_digest_builtin, digest_char as spec_digest_char, digest_token as spec_digest_token};
+ghost use Rattle.texml_top.specs.Gather.{nothing_yet, all_of, ops_of};
+ghost use Rattle.texml_top.specs.Digest.{digestion, digest_turn as spec_digest_turn, digest_token as spec_digest_token, digest_left as spec_digest_left, digest_meaning as spec_digest_meaning, word_at as spec_word_at, digest_word as spec_digest_word, digest_char as spec_digest_char, code as spec_code, newline as spec_newline};
 
-use crate::material::Material;
-use std::alloc::{AllocError, Global};
+use crate::gather::{Gathered, Piece};
+use crate::verb::verb;
+use std::alloc::Global;
 use texml_assign::{Executed, begin_group, end_group, execute, meaning_of};
 use texml_base::Files;
 use texml_expand::{Engine, Stop};
-use texml_scope::builtins::PAR;
+use texml_scope::builtins::{NEWLINE, PAR, SPACE, VERB};
 use texml_scope::{GroupKind, Meaning};
 use texml_token::{Token, category, fault_code};
+use texml_tree::Ops;
 use texml_watch::Teller;
 
-/// What all that an engine gives puts into the document, up to the end of what is to be read.
+const STAR: u32 = 42;
+
+/// What a builtin does that is no command: it ends a paragraph, is a space, reads characters as they stand, ends a line, or
+/// may not stand where it is digested.
+#[derive(Clone, Copy, Debug, PartialEq, Eq)]
+pub enum Word {
+    ParagraphEnd,
+    Space,
+    Verb,
+    Newline,
+    Misplaced,
+}
+
+/// The operations of all that an engine gives, up to the end of what is to be read.
 ///
 /// # Errors
 ///
@@ -32,26 +49,22 @@ pub fn digest<F: Files, T: Teller>(
     engine: &mut Engine,
     files: &mut F,
     tell: &mut T,
-) -> Result<Vec<Material>, Stop>
+) -> Result<Ops, Stop>
     requires running { engine.old.stop ≡ None }
     requires sound { Sound engine.old }
-    ensures does { Does (hears T.wanting T.heard) (hears_part T.wanting T.part) (loops digestion []) (ok_at (λ v. v.items) result) engine.old engine.new
+    ensures does { Does (hears T.wanting T.heard) (hears_part T.wanting T.part) (loops digestion nothing_yet) result engine.old engine.new
         (outside (F.faults files.old) (T.faults tell.old)) (outside (F.faults files.new) (T.faults tell.new)) tell.old tell.new }
     ensures files { files.new ≡ files.old }
 {
-    let mut seen = Vec::new(alloc);
+    let mut seen = Gathered::new(alloc);
     'rounds: loop {
         let begun = engine.begun();
         'tokens: loop {
             let token = match engine.fetch(files, tell)? {
                 Some(token) => token,
-                None => return Ok(seen),
+                None => return end_of(alloc, engine, seen),
             };
-            let material = digest_token(alloc, engine, files, tell, token)?;
-            match push_some(&mut seen, material) {
-                Ok(()) => {}
-                Err(_) => return Err(engine.no_memory()),
-            }
+            digest_turn(alloc, engine, files, tell, &mut seen, token)?;
             if engine.begun() != begun {
                 break;
             }
@@ -59,114 +72,203 @@ pub fn digest<F: Files, T: Teller>(
     }
 }
 
-// Puts something more into the document, if there is something.
-fn push_some(seen: &mut Vec<Material>, material: Option<Material>) -> Result<(), AllocError>
-    ensures { OnOk result (seen.new.items ≡ seen.old.items ++ option_to_list material) }
+// All that was gathered.
+fn end_of(alloc: Global, engine: &mut Engine, seen: Gathered) -> Result<Ops, Stop>
+    requires running { engine.old.stop ≡ None }
+    requires sound { Sound engine.old }
+    ensures gives { Silent (give (all_of seen) (state_of engine.old)) result (state_of engine.new) }
+    ensures kept { engine.new.stop ≡ stop_after result }
+    ensures keeps { OnOk result (Kept engine.old engine.new) }
+    ensures advances { Advances engine.old engine.new }
 {
-    match material {
-        None => Ok(()),
-        Some(material) => {
-            seen.push(material)?;
-            Ok(())
-        }
+    match seen.finish(alloc) {
+        Ok(ops) => Ok(ops),
+        Err(_) => Err(engine.no_memory()),
     }
 }
 
-// Does what a token that was fetched asks for: what it puts into the document, if anything.
+// Does what a token that was fetched asks for, and gathers what it puts into the document.
+fn digest_turn<F: Files, T: Teller>(
+    alloc: Global,
+    engine: &mut Engine,
+    files: &mut F,
+    tell: &mut T,
+    seen: &mut Gathered,
+    token: Token,
+) -> Result<(), Stop>
+    requires running { engine.old.stop ≡ None }
+    requires sound { Sound engine.old }
+    requires token { TokenWithin (length engine.old.names) token }
+    ensures does { Does (hears T.wanting T.heard) (hears_part T.wanting T.part) (spec_digest_turn seen.old (token_at engine.old.names token)) (ok_at (λ _. On seen.new) result) engine.old engine.new
+        (outside (F.faults files.old) (T.faults tell.old)) (outside (F.faults files.new) (T.faults tell.new)) tell.old tell.new }
+    ensures files { files.new ≡ files.old }
+{
+    let piece = digest_token(alloc, engine, files, tell, token)?;
+    match seen.add(alloc, piece) {
+        Ok(()) => Ok(()),
+        Err(_) => Err(engine.no_memory()),
+    }
+}
+
+// Does what a token that was fetched asks for: what it puts into the document.
 fn digest_token<F: Files, T: Teller>(
     alloc: Global,
     engine: &mut Engine,
     files: &mut F,
     tell: &mut T,
     token: Token,
-) -> Result<Option<Material>, Stop>
+) -> Result<Piece, Stop>
     requires running { engine.old.stop ≡ None }
     requires sound { Sound engine.old }
     requires token { TokenWithin (length engine.old.names) token }
-    ensures does { Does (hears T.wanting T.heard) (hears_part T.wanting T.part) (spec_digest_token (token_at engine.old.names token)) (ok_at option_to_list result) engine.old engine.new
+    ensures does { Does (hears T.wanting T.heard) (hears_part T.wanting T.part) (spec_digest_token (token_at engine.old.names token)) (ok_at ops_of result) engine.old engine.new
         (outside (F.faults files.old) (T.faults tell.old)) (outside (F.faults files.new) (T.faults tell.new)) tell.old tell.new }
     ensures files { files.new ≡ files.old }
 {
     let done = execute(alloc, engine, files, tell, token)?;
     match done {
-        Executed::Yes => Ok(None),
-        Executed::NotMine => digest_left(engine, token),
+        Executed::Yes => Ok(Piece::Nothing),
+        Executed::NotMine => digest_left(alloc, engine, files, tell, token),
     }
 }
 
 // Does what a token asks for that wasn't executed.
-fn digest_left(engine: &mut Engine, token: Token) -> Result<Option<Material>, Stop>
+fn digest_left<F: Files, T: Teller>(
+    alloc: Global,
+    engine: &mut Engine,
+    files: &mut F,
+    tell: &mut T,
+    token: Token,
+) -> Result<Piece, Stop>
     requires running { engine.old.stop ≡ None }
     requires sound { Sound engine.old }
     requires token { TokenWithin (length engine.old.names) token }
-    ensures digests { Silent (spec_digest_left (token_at engine.old.names token) NotMine (state_of engine.old)) (ok_at option_to_list result) (state_of engine.new) }
-    ensures kept { engine.new.stop ≡ stop_after result }
-    ensures keeps { OnOk result (Kept engine.old engine.new) }
-    ensures advances { Advances engine.old engine.new }
+    ensures does { Does (hears T.wanting T.heard) (hears_part T.wanting T.part) (spec_digest_left (token_at engine.old.names token) NotMine) (ok_at ops_of result) engine.old engine.new
+        (outside (F.faults files.old) (T.faults tell.old)) (outside (F.faults files.new) (T.faults tell.new)) tell.old tell.new }
+    ensures files { files.new ≡ files.old }
 {
     let meaning = match meaning_of(engine, token) {
         Ok(meaning) => meaning,
         Err(_) => return Err(engine.no_memory()),
     };
-    digest_meaning(engine, &meaning)
+    digest_meaning(alloc, engine, files, tell, &meaning)
 }
 
 // Does what a meaning asks for that is no command.
-fn digest_meaning(engine: &mut Engine, meaning: &Meaning) -> Result<Option<Material>, Stop>
+fn digest_meaning<F: Files, T: Teller>(
+    alloc: Global,
+    engine: &mut Engine,
+    files: &mut F,
+    tell: &mut T,
+    meaning: &Meaning,
+) -> Result<Piece, Stop>
     requires running { engine.old.stop ≡ None }
     requires sound { Sound engine.old }
     requires meaning { MeaningWithin (length engine.old.names) meaning.now }
-    ensures digests { Silent (spec_digest_meaning (meaning_at engine.old.names meaning.now) (state_of engine.old)) (ok_at option_to_list result) (state_of engine.new) }
-    ensures kept { engine.new.stop ≡ stop_after result }
-    ensures keeps { OnOk result (Kept engine.old engine.new) }
-    ensures advances { Advances engine.old engine.new }
+    ensures does { Does (hears T.wanting T.heard) (hears_part T.wanting T.part) (spec_digest_meaning (meaning_at engine.old.names meaning.now)) (ok_at ops_of result) engine.old engine.new
+        (outside (F.faults files.old) (T.faults tell.old)) (outside (F.faults files.new) (T.faults tell.new)) tell.old tell.new }
+    ensures files { files.new ≡ files.old }
 {
     match meaning {
         Meaning::Char(code, category) => digest_char(engine, *code, *category),
-        Meaning::Builtin(place) => digest_builtin(engine, *place),
+        Meaning::Builtin(place) => digest_word(alloc, engine, files, tell, word_at(*place)),
         _ => Err(engine.bare_fault(fault_code::MISPLACED)),
     }
 }
 
 // Does what a character asks for.
-fn digest_char(engine: &mut Engine, code: u32, category: u8) -> Result<Option<Material>, Stop>
+fn digest_char(engine: &mut Engine, code: u32, category: u8) -> Result<Piece, Stop>
     requires running { engine.old.stop ≡ None }
     requires sound { Sound engine.old }
     requires scalar { IsScalar code }
-    ensures digests { Silent (spec_digest_char code category (state_of engine.old)) (ok_at option_to_list result) (state_of engine.new) }
+    ensures digests { Silent (spec_digest_char code category (state_of engine.old)) (ok_at ops_of result) (state_of engine.new) }
     ensures kept { engine.new.stop ≡ stop_after result }
     ensures keeps { OnOk result (Kept engine.old engine.new) }
     ensures advances { Advances engine.old engine.new }
 {
     match category {
-        category::SPACE | category::LETTER | category::OTHER => {
-            Ok(Some(Material::Char(char_of(code))))
-        }
+        category::SPACE => Ok(Piece::Space),
+        category::LETTER | category::OTHER => Ok(Piece::Char(char_of(code))),
         category::BEGIN_GROUP => {
             begin_group(engine, GroupKind::Brace)?;
-            Ok(None)
+            Ok(Piece::Nothing)
         }
         category::END_GROUP => {
             end_group(engine, GroupKind::Brace)?;
-            Ok(None)
+            Ok(Piece::Nothing)
         }
         _ => Err(engine.bare_fault(fault_code::MISPLACED)),
     }
 }
 
-// Does what a builtin that is no command asks for, by its place.
-fn digest_builtin(engine: &mut Engine, place: u16) -> Result<Option<Material>, Stop>
+// Does what a builtin that is no command asks for.
+fn digest_word<F: Files, T: Teller>(
+    alloc: Global,
+    engine: &mut Engine,
+    files: &mut F,
+    tell: &mut T,
+    word: Word,
+) -> Result<Piece, Stop>
     requires running { engine.old.stop ≡ None }
     requires sound { Sound engine.old }
-    ensures digests { Silent (spec_digest_builtin place (state_of engine.old)) (ok_at option_to_list result) (state_of engine.new) }
-    ensures kept { engine.new.stop ≡ stop_after result }
-    ensures keeps { OnOk result (Kept engine.old engine.new) }
-    ensures advances { Advances engine.old engine.new }
+    ensures does { Does (hears T.wanting T.heard) (hears_part T.wanting T.part) (spec_digest_word word) (ok_at ops_of result) engine.old engine.new
+        (outside (F.faults files.old) (T.faults tell.old)) (outside (F.faults files.new) (T.faults tell.new)) tell.old tell.new }
+    ensures files { files.new ≡ files.old }
+{
+    match word {
+        Word::ParagraphEnd => Ok(Piece::ParagraphEnd),
+        Word::Space => Ok(Piece::Space),
+        Word::Verb => code(alloc, engine, files, tell),
+        Word::Newline => newline(engine, files, tell),
+        Word::Misplaced => Err(engine.bare_fault(fault_code::MISPLACED)),
+    }
+}
+
+// What the builtin of a place does.
+fn word_at(place: u16) -> Word
+    ensures { result ≡ spec_word_at place }
 {
     match place {
-        PAR => Ok(Some(Material::Par)),
-        _ => Err(engine.bare_fault(fault_code::MISPLACED)),
+        PAR => Word::ParagraphEnd,
+        SPACE => Word::Space,
+        VERB => Word::Verb,
+        NEWLINE => Word::Newline,
+        _ => Word::Misplaced,
     }
+}
+
+// Reads characters as they stand.
+fn code<F: Files, T: Teller>(
+    alloc: Global,
+    engine: &mut Engine,
+    files: &mut F,
+    tell: &mut T,
+) -> Result<Piece, Stop>
+    requires running { engine.old.stop ≡ None }
+    requires sound { Sound engine.old }
+    ensures does { Does (hears T.wanting T.heard) (hears_part T.wanting T.part) spec_code (ok_at ops_of result) engine.old engine.new
+        (outside (F.faults files.old) (T.faults tell.old)) (outside (F.faults files.new) (T.faults tell.new)) tell.old tell.new }
+    ensures files { files.new ≡ files.old }
+{
+    let text = verb(alloc, engine, files, tell)?;
+    Ok(Piece::Code(text))
+}
+
+// Reads what may stand behind the end of a line, and drops it.
+fn newline<F: Files, T: Teller>(
+    engine: &mut Engine,
+    files: &mut F,
+    tell: &mut T,
+) -> Result<Piece, Stop>
+    requires running { engine.old.stop ≡ None }
+    requires sound { Sound engine.old }
+    ensures does { Does (hears T.wanting T.heard) (hears_part T.wanting T.part) (λ n. spec_newline) (ok_at ops_of result) engine.old engine.new
+        (outside (F.faults files.old) (T.faults tell.old)) (outside (F.faults files.new) (T.faults tell.new)) tell.old tell.new }
+    ensures files { files.new ≡ files.old }
+{
+    let _star = engine.read_sign(files, tell, STAR)?;
+    let _space = engine.read_optional(files, tell)?;
+    Ok(Piece::Break)
 }
 
 // The character of a code.

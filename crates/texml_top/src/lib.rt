@@ -4,18 +4,21 @@
 //! trace that they give, or ends with a failure that the files or the sink had in this call, or with want of memory, and
 //! then has written what each answer allows. It stands on texml_base for the outside, on texml_token for tokens, names and
 //! faults, on texml_text for the lines of a text, on texml_scope for what names mean, on texml_expand for the engine that
-//! fetches and expands, and on texml_watch for trace lines.
+//! fetches and expands, on texml_watch for trace lines, and on texml_tree, texml_model, texml_build, texml_xref and texml_html
+//! for the document.
 #![tactic(auto)]
 
 mod digest;
+mod document;
+mod gather;
 mod laws;
-mod material;
-mod page;
 mod request;
 mod source;
 mod start;
 mod status;
+mod table;
 mod top;
+mod verb;
 
 pub use laws::one_outcome;
 pub use status::Status;

@@ -2,8 +2,10 @@
 ghost use Rattle.std.specs.Prelude.{◌≡◌};
 
 use std::alloc::{AllocError, Global};
+use texml_build::BuildFault;
 use texml_expand::Stop;
 use texml_token::{Bytes, Fault};
+use texml_tree::ModelFault;
 
 /// What a run ends with.
 #[derive(Debug, Drop)]
@@ -14,6 +16,8 @@ pub enum Status {
     Usage(u8),
     /// The first fault of the text.
     Tex(Fault),
+    /// The first thing that the table of elements doesn't allow.
+    Model(ModelFault),
     /// So many expansions were begun, the limit, and another would begin.
     Limit(u64),
     /// The files failed.
@@ -31,6 +35,19 @@ impl From<AllocError> for Status {
 
     fn from(_: AllocError) -> Self {
         Status::NoMemory
+    }
+}
+
+impl From<BuildFault> for Status {
+    ghost use Rattle.texml_top.specs.Run.{unbuilt};
+
+    ghost from_gives = { λ fault s. s ≡ unbuilt fault };
+
+    fn from(fault: BuildFault) -> Self {
+        match fault {
+            BuildFault::Model(fault) => Status::Model(fault),
+            BuildFault::NoMemory => Status::NoMemory,
+        }
     }
 }
 

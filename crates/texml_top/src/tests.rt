@@ -53,7 +53,7 @@ fn run_on(
 fn texts_have_their_first_fault(rt: HostRuntime) -> Result<(), Fail> {
     let alloc = rt.alloc();
     // A text, its fault's number, and what the fault is about.
-    let rows: [(&[u8], u8, &str); 24] = [
+    let rows: [(&[u8], u8, &str); 23] = [
         (b"a}", 17, ""),
         (b"a<b % c\n&\n", 18, ""),
         (b"x^y", 18, ""),
@@ -61,7 +61,6 @@ fn texts_have_their_first_fault(rt: HostRuntime) -> Result<(), Fail> {
         (b"a~b", 1, "~"),
         (b"a\x7f\n", 15, ""),
         (b"\\foo&", 1, "\\foo"),
-        (b"\\", 1, "\\\r"),
         (b"\\def\\a{x", 4, ""),
         (b"\\def a{x}", 18, ""),
         (b"\\def\\a#2{}", 14, ""),

@@ -4,11 +4,11 @@ ghost use Rattle.texml_base.specs.Rising.{Rose};
 ghost use Rattle.texml_expand.specs.Held.{Sound, state_of};
 ghost use Rattle.texml_top.specs.Request.{asked};
 ghost use Rattle.texml_top.specs.Outcome.{OfOutcome, FromState};
-ghost use Rattle.texml_top.specs.Run.{EndsAs, MayEnd, FilesBlamed, SinkBlamed, FitsWords, TouchesNothing, LimitIs, WritesLate, LateAsked, WritesPage, PageAsked, WholeLines, LinesBy, LinesAsked};
+ghost use Rattle.texml_top.specs.Run.{EndsAs, MayEnd, FilesBlamed, SinkBlamed, FitsWords, TouchesNothing, LimitIs, WritesLate, LateAsked, WritesDocument, DocumentAsked, WritesPage, PageAsked, WholeLines, LinesBy, LinesAsked};
 ghost use Rattle.texml_top.specs.declared.request.Command.TheVariants.{Convert, Expand};
 
 use crate::digest::digest;
-use crate::page::page_of;
+use crate::document::write_page;
 use crate::request::{Command, read_request};
 use crate::start::start_engine;
 use crate::status::Status;
@@ -21,9 +21,10 @@ use texml_watch::{Lines, Nobody};
 /// line for each completed expansion. With `--limit N` behind it at most N expansions begin.
 ///
 /// It answers `Usage` where the words are no command line, and opens nothing then; `Tex` with the first fault of the
-/// text; `Limit` where one expansion too many would begin; `ReadFault` and `WriteFault` only where the files or the sink
-/// failed in this call; `NoMemory` where memory was refused. The HTML is made whole before the first write. A line is
-/// written when its expansion is completed. Nothing is written to `notes` yet.
+/// text; `Model` with the first thing in the document that the table of elements doesn't allow; `Limit` where one expansion too
+/// many would begin; `ReadFault` and `WriteFault` only where the files or the sink failed in this call; `NoMemory` where
+/// memory was refused. The document is made whole before the first write. A line is written when its expansion is completed.
+/// Nothing is written to `notes` yet.
 pub fn run<F: Files, S: Sink, N: Sink>(
     alloc: Global,
     words: &[String],
@@ -44,6 +45,8 @@ pub fn run<F: Files, S: Sink, N: Sink>(
     // Nothing of a page is written before it is whole.
     ensures late { LateAsked (asked (map string_bytes words.now)) result (S.ink out.old) (S.ink out.new) }
     ensures page { IsTrue (F.shelf files.old).tells → OfOutcome (map string_bytes words.now) (F.shelf files.old).contents (PageAsked (asked (map string_bytes words.now)) result) }
+    // What is written is the page of a valid, cross-referenced document, or a first part of it where the sink failed.
+    ensures document { DocumentAsked (asked (map string_bytes words.now)) result (S.ink out.old) (S.ink out.new) }
     // Whatever ends it, whole lines of the trace were written, unless the sink failed.
     ensures lines { IsTrue (F.shelf files.old).tells → (Rose (S.faults out.old) (S.faults out.new) → ⊥) → OfOutcome (map string_bytes words.now) (F.shelf files.old).contents
         (λ all. LinesAsked (asked (map string_bytes words.now)) all (S.ink out.old) (S.ink out.new)) }
@@ -82,6 +85,7 @@ fn perform<F: Files, S: Sink>(
     ensures limit { LimitIs engine.old.limit result }
     ensures late { WritesLate command result (S.ink out.old) (S.ink out.new) }
     ensures page { FromState command (state_of engine.old) (WritesPage command result) }
+    ensures document { WritesDocument command result (S.ink out.old) (S.ink out.new) }
     ensures lines { (Rose (S.faults out.old) (S.faults out.new) → ⊥) → FromState command (state_of engine.old) (λ all. LinesBy command all (S.ink out.old) (S.ink out.new)) }
     ensures files { files.new ≡ files.old }
 {
@@ -106,19 +110,12 @@ fn convert<F: Files, S: Sink>(
     ensures limit { LimitIs engine.old.limit result }
     ensures late { WritesLate Convert result (S.ink out.old) (S.ink out.new) }
     ensures page { FromState Convert (state_of engine.old) (WritesPage Convert result) }
+    ensures document { WritesDocument Convert result (S.ink out.old) (S.ink out.new) }
     ensures files { files.new ≡ files.old }
 {
-    let material = match digest(alloc, engine, files, &mut Nobody) {
-        Ok(material) => material,
-        Err(stop) => return Status::from(stop),
-    };
-    let page = match page_of(alloc, &material) {
-        Ok(page) => page,
-        Err(_) => return Status::NoMemory,
-    };
-    match out.write(page.as_bytes()) {
-        Ok(()) => Status::Done,
-        Err(_) => Status::WriteFault,
+    match digest(alloc, engine, files, &mut Nobody) {
+        Ok(ops) => write_page(alloc, &ops, out),
+        Err(stop) => Status::from(stop),
     }
 }
 

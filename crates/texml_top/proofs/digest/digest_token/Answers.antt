@@ -1,22 +1,24 @@
-use Rattle.std.proofs.Common.{ℕ, [], Ok, Err, refl, sym, ap, subst, ◌∙◌, length, rules}
-use Rattle.std.specs.Option.{option_to_list}
+use Rattle.std.proofs.Common.{[], Ok, refl, ap, subst, sym, length, rules}
 use Rattle.texml_token.specs.Token.{Token}
 use Rattle.texml_token.specs.Numbers.{token_at, TokenWithin}
-use Rattle.texml_expand.specs.Contract.{Silent}
-use Rattle.texml_expand.specs.Held.{Held, Kept, state_of, ok_at}
+use Rattle.texml_expand.specs.Contract.{outside}
+use Rattle.texml_expand.specs.Held.{Held, ok_at}
+use Rattle.texml_expand.specs.Hearing.{hears, hears_part}
 use Rattle.texml_assign.specs.Doing.{Does}
 use Rattle.texml_assign.specs.declared.executing.Executed.TheVariants.{Yes, NotMine}
 use Rattle.texml_assign.specs.Execute.{execute}
-use Rattle.texml_assign.proofs.Doing.{does_then, does_stop, does_now, does_silent, kept_of, keeps_of}
+use Rattle.texml_assign.proofs.Readings.{plain_give}
+use Rattle.texml_assign.proofs.Doing.{does_then, does_stop, does_now}
 use Rattle.texml_assign.proofs.Commands.{lawful_execute}
+use Rattle.texml_top.specs.Gather.{ops_of}
 use Rattle.texml_top.specs.Digest.{digest_left}
-use Rattle.texml_top.proofs.Digesting.{plain_left, lawful_left}
+use Rattle.texml_top.proofs.Digesting.{lawful_left}
 use Rattle.texml_top.proofs.digest.digest_token.Goals as goal
 
 pub returns-in_err-done-clause-does : goal.returns-in_err-done-clause-does
 returns-in_err-done-clause-does g c =
     let f = c.in_err-done.ensures in let run = c.requires.running in let t = token_at c.args.engine.now.names c.args.token in
-    let h = does_stop _ _ (execute t) (λ done n. digest_left t done) (lawful_execute t) (lawful_left t) _ c.args.engine.now c.execute.new.engine _ _ _ _ c.requires.sound
+    let h = does_stop _ _ (execute t) (digest_left t) (lawful_execute t) (lawful_left t) _ c.args.engine.now c.execute.new.engine _ _ _ _ c.requires.sound
     (record { follows = f.follows run; stops = f.stops run; limit = f.limit run; keeps = tt; advances = f.advances }) in
     search (rules, h)
 
@@ -25,9 +27,9 @@ returns-in-Yes-clause-does g c =
     let f = c.in_ok-done.ensures in let t = token_at c.args.engine.now.names c.args.token in let mid = c.execute.new.engine in
     let run = c.requires.running in
     let d = rw c.in-Yes.is at (f.follows run) in let stops = f.stops run in let keeps = f.keeps run in
-    does_then _ _ (execute t) (λ done n. digest_left t done) (lawful_execute t) (lawful_left t) Yes (Ok []) c.args.engine.now mid mid _ _ _ _ _ _
+    does_then _ _ (execute t) (digest_left t) (lawful_execute t) (lawful_left t) Yes (Ok []) c.args.engine.now mid mid _ _ _ _ _ _
     (record { follows = d; stops = record { kept = stops.kept; reads = stops.reads; tells = stops.tells }; limit = tt; keeps = keeps; advances = f.advances })
-    (does_now _ _ (digest_left t Yes) (plain_left t Yes) [] mid _ _ keeps.sound stops.kept refl)
+    (does_now _ _ (digest_left t Yes 0) (plain_give []) [] mid _ _ keeps.sound stops.kept refl)
 
 pub digest_left-requires-clause-token : goal.digest_left-requires-clause-token
 digest_left-requires-clause-token g c =
@@ -40,7 +42,8 @@ returns-in-NotMine-clause-does g c =
     let run = c.requires.running in
     let d = rw c.in-NotMine.is at (f.follows run) in let stops = f.stops run in let keeps = f.keeps run in
     let same = ap (λ (h : Held). token_at h.names c.args.token) (c.in_ok-done.ensures.same c.in-NotMine.is).0 in
-    let P : Token → Type 0 = λ t. Silent (digest_left t NotMine (state_of mid)) (ok_at option_to_list c.digest_left.result) (state_of new) in
-    does_then _ _ (execute t) (λ done n. digest_left t done) (lawful_execute t) (lawful_left t) NotMine _ old mid new _ _ _ _ _ _
+    let P : Token → Type 0 = λ t. Does (hears g.T.Teller.wanting g.T.Teller.heard) (hears_part g.T.Teller.wanting g.T.Teller.part) (digest_left t NotMine) (ok_at ops_of c.digest_left.result) mid new
+        (outside (g.F.Files.faults c.execute.new.files) (g.T.Teller.faults c.execute.new.tell)) (outside (g.F.Files.faults c.digest_left.new.files) (g.T.Teller.faults c.digest_left.new.tell)) c.execute.new.tell c.digest_left.new.tell in
+    does_then _ _ (execute t) (digest_left t) (lawful_execute t) (lawful_left t) NotMine _ old mid new _ _ _ _ _ _
     (record { follows = d; stops = record { kept = stops.kept; reads = stops.reads; tells = stops.tells }; limit = tt; keeps = keeps; advances = f.advances })
-    (does_silent _ _ (digest_left t NotMine) (plain_left t NotMine) (ok_at option_to_list c.digest_left.result) mid new _ _ _ _ _ _ refl refl refl (subst P same l.digests) (kept_of option_to_list c.digest_left.result new.stop l.kept) (keeps_of option_to_list c.digest_left.result (Kept mid new) l.keeps) l.advances)
+    (subst P same l.does)

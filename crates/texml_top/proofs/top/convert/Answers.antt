@@ -1,9 +1,25 @@
-use Rattle.std.proofs.Common.{sym, ap, ◌∙◌, take}
-use Rattle.texml_base.specs.Outside.{inked}
-use Rattle.texml_top.specs.Page.{page}
+use Rattle.std.proofs.Common.{ap}
 use Rattle.texml_top.proofs.Outcomes.{from_any}
-use Rattle.texml_top.proofs.Ending.{none_written, page_some, convert_done, convert_stops, silent_page, silent_sink, stop_files, stop_limit}
+use Rattle.texml_top.proofs.Ending.{convert_meets, convert_page, page_late, page_document, page_files, page_limit, convert_stops, silent_page, silent_document, silent_sink, stop_files, stop_limit}
 use Rattle.texml_top.proofs.top.convert.Goals as goal
+
+pub returns-in-Ok-clause-meets : goal.returns-in-Ok-clause-meets
+returns-in-Ok-clause-meets g c = convert_meets _ _ _ c.in-Ok.ops _ _ _ _ _ _ c.in-Ok.ensures.does.follows c.write_page.ensures.ends
+
+pub returns-in-Ok-clause-files_cause : goal.returns-in-Ok-clause-files_cause
+returns-in-Ok-clause-files_cause g c = page_files _ _ _ _ _ _ (ap g.F.Files.faults c.in-Ok.ensures.files) c.write_page.ensures.ends
+
+pub returns-in-Ok-clause-limit : goal.returns-in-Ok-clause-limit
+returns-in-Ok-clause-limit g c = page_limit _ _ _ _ _ c.write_page.ensures.ends
+
+pub returns-in-Ok-clause-late : goal.returns-in-Ok-clause-late
+returns-in-Ok-clause-late g c = page_late _ _ _ _ c.write_page.ensures.ends
+
+pub returns-in-Ok-clause-page : goal.returns-in-Ok-clause-page
+returns-in-Ok-clause-page g c = convert_page _ _ _ c.in-Ok.ops _ _ _ _ _ _ c.in-Ok.ensures.does.follows c.write_page.ensures.ends
+
+pub returns-in-Ok-clause-document : goal.returns-in-Ok-clause-document
+returns-in-Ok-clause-document g c = page_document _ _ _ _ c.write_page.ensures.ends
 
 pub returns-in-Err-clause-meets : goal.returns-in-Err-clause-meets
 returns-in-Err-clause-meets g c =
@@ -22,28 +38,5 @@ returns-in-Err-clause-limit g c = let d = c.in-Err.ensures.does in rw c.from.ens
 pub returns-in-Err-clause-page : goal.returns-in-Err-clause-page
 returns-in-Err-clause-page g c = rw c.from.ensures (from_any _ _ c.requires.sound.budget _ (λ all. silent_page c.in-Err.stop all c.in-Err.ensures.does.stops.tells))
 
-pub returns-in-Err-page_of-clause-meets : goal.returns-in-Err-page_of-clause-meets
-returns-in-Err-page_of-clause-meets g c = from_any _ _ c.requires.sound.budget _ (λ all. none_written all.bytes (g.S.Sink.ink c.args.out.now))
-
-pub returns-in-Err-page_of-clause-page : goal.returns-in-Err-page_of-clause-page
-returns-in-Err-page_of-clause-page g c = from_any _ _ c.requires.sound.budget _ (λ all. tt)
-
-pub returns-in-Ok-write-clause-meets : goal.returns-in-Ok-write-clause-meets
-returns-in-Ok-write-clause-meets g c =
-    let bytes = c.as_bytes.ensures.value ∙ c.in-Ok-page_of.ensures ∙ ap page c.deref.ensures.value in
-    convert_done _ _ c.in-Ok.material.items _ _ _ _ _ c.in-Ok.ensures.does.follows
-    (λ all done is. (sym done, c.in-Ok-write.ensures.written ∙ ap (inked (g.S.Sink.ink c.args.out.now)) (bytes ∙ sym is)))
-
-pub returns-in-Ok-write-clause-page : goal.returns-in-Ok-write-clause-page
-returns-in-Ok-write-clause-page g c = from_any _ _ c.requires.sound.budget _ (λ all. tt)
-
-pub returns-clause-meets : goal.returns-clause-meets
-returns-clause-meets g c =
-    let bytes = c.as_bytes.ensures.value ∙ c.in-Ok-page_of.ensures ∙ ap page c.deref.ensures.value in
-    let wrote = c.in-Err-write.ensures.written in
-    convert_done _ _ c.in-Ok.material.items _ _ _ _ _ c.in-Ok.ensures.does.follows
-    (λ all done is. (λ none. page_some c.in-Ok.material.items (sym is ∙ none), (wrote.0, wrote.1 ∙ ap (λ b. inked (g.S.Sink.ink c.args.out.now) (take wrote.0 b)) (bytes ∙ sym is))))
-
-pub returns-clause-page : goal.returns-clause-page
-returns-clause-page g c =
-    convert_done _ _ c.in-Ok.material.items _ _ _ _ _ c.in-Ok.ensures.does.follows (λ all done is. done)
+pub returns-in-Err-clause-document : goal.returns-in-Err-clause-document
+returns-in-Err-clause-document g c = rw c.from.ensures (silent_document c.in-Err.stop _ _ c.in-Err.ensures.does.stops.tells)

@@ -3,7 +3,7 @@ use Rattle.texml_top.specs.Request.{asked, read_as}
 use Rattle.texml_top.specs.Run.{FilesBlamed}
 use Rattle.texml_top.specs.declared.status.Status.TheVariants.{Usage}
 use Rattle.texml_top.proofs.Outcomes.{of_words, of_any, with_weaker}
-use Rattle.texml_top.proofs.Ending.{refused_ends, no_lines_by, ends_exactly, usage_page, usage_lines, asked_page, asked_lines, start_meets, start_sink, start_page, started}
+use Rattle.texml_top.proofs.Ending.{refused_ends, no_lines_by, ends_exactly, usage_page, usage_document, usage_lines, asked_page, asked_document, asked_lines, start_meets, start_sink, start_page, start_document, started}
 use Rattle.texml_top.proofs.top.run.Goals as goal
 
 -- words that are no command line
@@ -19,6 +19,9 @@ pub returns-in-Err-clause-page : goal.returns-in-Err-clause-page
 returns-in-Err-clause-page g c = λ told.
     let words = map string_bytes c.args.words.now in
     of_any words (g.F.Files.shelf c.args.files.now).contents _ (λ all. usage_page (asked words) c.in-Err.which _ all c.in-Err.ensures)
+
+pub returns-in-Err-clause-document : goal.returns-in-Err-clause-document
+returns-in-Err-clause-document g c = usage_document (asked (map string_bytes c.args.words.now)) c.in-Err.which _ _ _ c.in-Err.ensures
 
 pub returns-in-Err-clause-lines : goal.returns-in-Err-clause-lines
 returns-in-Err-clause-lines g c = λ told wrote.
@@ -49,6 +52,12 @@ returns-in-Err-start_engine-clause-page g c = λ told.
     of_any words shelf.contents _
     (λ all. asked_page (asked words) request _ all c.in-Ok.ensures (start_page words shelf request c.in-Ok.ensures request.command _ all c.in-Err-start_engine.ensures.starts))
 
+pub returns-in-Err-start_engine-clause-document : goal.returns-in-Err-start_engine-clause-document
+returns-in-Err-start_engine-clause-document g c =
+    let request = read_as c.in-Ok.request in
+    asked_document (asked (map string_bytes c.args.words.now)) request _ _ _ c.in-Ok.ensures
+    (start_document (g.F.Files.shelf c.args.files.now) request.file request.limit request.command _ _ c.in-Err-start_engine.ensures.starts)
+
 pub returns-in-Err-start_engine-clause-lines : goal.returns-in-Err-start_engine-clause-lines
 returns-in-Err-start_engine-clause-lines g c = λ told wrote.
     let words = map string_bytes c.args.words.now in
@@ -75,6 +84,9 @@ returns-clause-page g c = λ told.
     let request = read_as c.in-Ok.request in
     with_weaker _ (λ all h. asked_page (asked words) request _ all c.in-Ok.ensures h)
     (started words (g.F.Files.shelf c.args.files.now).contents request c.in-Ok-start_engine.engine _ c.in-Ok.ensures (c.in-Ok-start_engine.ensures.starts told) c.perform.ensures.page)
+
+pub returns-clause-document : goal.returns-clause-document
+returns-clause-document g c = asked_document (asked (map string_bytes c.args.words.now)) (read_as c.in-Ok.request) _ _ _ c.in-Ok.ensures c.perform.ensures.document
 
 pub returns-clause-lines : goal.returns-clause-lines
 returns-clause-lines g c = λ told wrote.

@@ -1,0 +1,13 @@
+use Rattle.std.proofs.Common.{◌≡◌, None, take}
+use Rattle.texml_expand.specs.Held.{state_of, Kept}
+use Rattle.texml_assign.specs.Advance.{Advances}
+use Rattle.texml_top.specs.Verb.{all_other}
+use Rattle.texml_top.proofs.verb.make_others.Given as goal
+
+abbrev pub invariant-loop-character : goal.invariant-loop-character
+invariant-loop-character l = record {
+  running : l.engine.stop ≡ None;
+  others : state_of l.engine ≡ all_other (take l.character-index l.characters) (state_of l.fn.engine);
+  kept : Kept l.fn.engine l.engine;
+  advances : Advances l.fn.engine l.engine;
+}
