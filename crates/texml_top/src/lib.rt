@@ -25,6 +25,8 @@ pub use status::Status;
 pub use top::run;
 
 #[cfg(test)]
+mod document_tests;
+#[cfg(test)]
 mod request_tests;
 #[cfg(test)]
 mod tests;
