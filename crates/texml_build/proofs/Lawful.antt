@@ -35,7 +35,7 @@ levels_nil : (r : Rules) (path : List ℕ) → LevelsOk r path []
 levels_nil r [] = tt
 levels_nil r (p ∷ ps) = (tt, tt, levels_nil r ps)
 
-before_append : (r : Rules) (a b : List Bracket) (ls : Levels) → all_before r (a ++ b) ls ≡ all_before r a (all_before r b ls)
+pub before_append : (r : Rules) (a b : List Bracket) (ls : Levels) → all_before r (a ++ b) ls ≡ all_before r a (all_before r b ls)
 before_append r [] b ls = refl
 before_append r (x ∷ a) b ls = ap (before r x) (before_append r a b ls)
 
@@ -123,6 +123,18 @@ place_good_by r model child path (Some f) e =
 
 place_good : (r : Rules) → IsModel r → (child : Option ℕ) (path : List ℕ) → Good r (Ready r child) path (place r child path)
 place_good r model child path = place_good_by r model child path (fit r path child) refl
+
+-- behind the place of a text the innermost element takes texts
+abbrev pub TextReady : Rules → Outcome → Type 0
+TextReady r (Err f) = Unit {0}
+TextReady r (Ok o) = (0 < length o.1) × (r.takes_text (innermost o.1) ≡ true)
+
+ready_of : (r : Rules) (path : List ℕ) (x : Outcome) → Good r (Ready r None) path x → TextReady r x
+ready_of r path (Err f) g = tt
+ready_of r path (Ok o) g = g.0
+
+pub place_text : (r : Rules) → IsModel r → (path : List ℕ) → TextReady r (place r None path)
+place_text r model path = ready_of r path (place r None path) (place_good r model None path)
 
 abbrev Some_open : List ℕ → Type 0
 Some_open path = 0 < length path
@@ -253,7 +265,7 @@ valid_by r model (Ok o) g =
 pub built_valid : (r : Rules) → IsModel r → (ops : List Op) → IsValid r (built r ops)
 built_valid r model ops = valid_by r model (brackets r ops) (brackets_good r model ops)
 
-model_of : (t : Elements) → IsContentModel t → IsModel (rules_of t)
+pub model_of : (t : Elements) → IsContentModel t → IsModel (rules_of t)
 model_of t m = record { sound = rules_sound t; void = void_is_empty t m; root = root_named t m }
 
 pub valid_result : (t : Elements) (ops : List Op) (result : Result TreeCode BuildFault) → OnOk result (IsContentModel t) → Builds (built (rules_of t) ops) result → IfOk result (λ tree. Valid (rules_of t) (tree_of tree))

@@ -4,4 +4,5 @@ pub mod Follow
 pub mod Paths
 pub mod Kids
 pub mod Lawful
+pub mod Texts
 pub mod Rows

@@ -5,3 +5,4 @@ pub mod Valid
 pub mod Answer
 pub mod Small
 pub mod Held
+pub mod Texts

@@ -6,6 +6,7 @@ ghost use Rattle.texml_model.specs.Rules.{IsContentModel, rules_of};
 ghost use Rattle.texml_build.specs.Matched.{built};
 ghost use Rattle.texml_build.specs.Answer.{Builds};
 ghost use Rattle.texml_build.specs.Valid.{Valid, EveryTreeIsValid};
+ghost use Rattle.texml_build.specs.Texts.{TextsGoOn};
 
 use crate::builder::Builder;
 use crate::fault::BuildFault;
@@ -56,4 +57,10 @@ fn grow<'a>(
 /// The law on the definitions: the tree of every list of operations is valid.
 pub fn every_tree_is_valid()
     ensures { EveryTreeIsValid }
+{}
+
+/// The law on the definitions: a text may go on with the one before it, and so may a space behind a text. The tree is the
+/// same, and so is the fault.
+pub fn texts_go_on()
+    ensures { TextsGoOn }
 {}

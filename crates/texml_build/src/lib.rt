@@ -11,5 +11,5 @@ mod building;
 mod fault;
 mod trim;
 
-pub use building::{build, every_tree_is_valid};
+pub use building::{build, every_tree_is_valid, texts_go_on};
 pub use fault::BuildFault;

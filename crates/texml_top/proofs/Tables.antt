@@ -23,7 +23,7 @@ use Rattle.texml_top.specs.Run.{unbuilt, EndsPage}
 use Rattle.texml_top.specs.declared.table.TheConstants.{PARAGRAPH, BREAK, CODE}
 use Rattle.texml_top.proofs.References.{cross_referenced}
 
-table_is_model : IsContentModel elements
+pub table_is_model : IsContentModel elements
 unfolding elements line_by
 table_is_model = record { names = refl; root = refl; held = refl; attributes = refl; attrs = refl; void = refl }
 

@@ -8,6 +8,7 @@ use Rattle.texml_build.specs.Valid.{Valid}
 use Rattle.texml_xref.specs.Refs.{linked}
 use Rattle.texml_html.specs.Html.{html}
 use Rattle.texml_top.specs.Table.{rules}
+use Rattle.texml_top.specs.Gather.{gathered}
 use Rattle.texml_top.specs.References.{IsCrossReferenced}
 
 -- the HTML of the linked tree
@@ -28,3 +29,7 @@ pub record IsPage (bytes : List ℕ) : Type 0 where
   pub valid : Valid rules tree
   pub referenced : IsCrossReferenced (linked rules tree)
   pub is : bytes ≡ page_of tree
+
+-- the law: texts that go on as one make the same document
+abbrev pub GatheringKeepsTheDocument : Type 0
+GatheringKeepsTheDocument = (ops : List Op) → document (gathered ops) ≡ document ops

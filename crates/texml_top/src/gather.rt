@@ -117,6 +117,7 @@ impl Gathered {
             return Ok(());
         }
         let text = mem::replace(&mut self.text, Bytes::new(alloc));
-        self.ops.push(Op::Text(Bytes::from_slice(alloc, text.as_slice())?))
+        self.ops
+            .push(Op::Text(Bytes::from_slice(alloc, text.as_slice())?))
     }
 }

@@ -20,10 +20,12 @@ mod table;
 mod top;
 mod verb;
 
-pub use laws::one_outcome;
+pub use laws::{gathering_keeps_the_document, one_outcome};
 pub use status::Status;
 pub use top::run;
 
+#[cfg(test)]
+mod document_tests;
 #[cfg(test)]
 mod request_tests;
 #[cfg(test)]

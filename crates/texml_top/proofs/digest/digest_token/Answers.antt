@@ -43,7 +43,7 @@ returns-in-NotMine-clause-does g c =
     let d = rw c.in-NotMine.is at (f.follows run) in let stops = f.stops run in let keeps = f.keeps run in
     let same = ap (λ (h : Held). token_at h.names c.args.token) (c.in_ok-done.ensures.same c.in-NotMine.is).0 in
     let P : Token → Type 0 = λ t. Does (hears g.T.Teller.wanting g.T.Teller.heard) (hears_part g.T.Teller.wanting g.T.Teller.part) (digest_left t NotMine) (ok_at ops_of c.digest_left.result) mid new
-        (outside (g.F.Files.faults c.execute.new.files) (g.T.Teller.faults c.execute.new.tell)) (outside (g.F.Files.faults c.digest_left.new.files) (g.T.Teller.faults c.digest_left.new.tell)) c.execute.new.tell c.digest_left.new.tell in
+    (outside (g.F.Files.faults c.execute.new.files) (g.T.Teller.faults c.execute.new.tell)) (outside (g.F.Files.faults c.digest_left.new.files) (g.T.Teller.faults c.digest_left.new.tell)) c.execute.new.tell c.digest_left.new.tell in
     does_then _ _ (execute t) (digest_left t) (lawful_execute t) (lawful_left t) NotMine _ old mid new _ _ _ _ _ _
     (record { follows = d; stops = record { kept = stops.kept; reads = stops.reads; tells = stops.tells }; limit = tt; keeps = keeps; advances = f.advances })
     (subst P same l.does)
