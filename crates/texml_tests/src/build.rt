@@ -10,6 +10,7 @@ use texml_build::{BuildFault, build};
 use texml_model::Content;
 use texml_token::Bytes;
 use texml_tree::{Elem, Node, Op, Ops, Sets};
+use texml_xref::resolve;
 
 const P: usize = 1;
 
@@ -251,5 +252,35 @@ fn two_hundred_elements_may_be_open(rt: HostRuntime) -> Result<(), Fail> {
     assert_eq!(rt; deep.as_slice(), b"4 quote ".as_slice());
     let deeper = quotes(rt.alloc(), &content, 200)?;
     assert_eq!(rt; deeper.as_slice(), b"6 quote quote".as_slice());
+    Ok(())
+}
+
+// A list of so many items, each with a label of its own, and a reference to each behind it.
+fn many(alloc: Global, count: u32) -> Result<Ops, AllocError> {
+    let mut ops = Ops::new(alloc);
+    ops.push(Op::Open(Elem(LIST), Sets::new(alloc)))?;
+    for i in 0..count {
+        let label = Bytes::from_slice(alloc, &i.to_be_bytes())?;
+        ops.push(Op::Open(Elem(ITEM), Sets::new(alloc)))?;
+        ops.push(Op::Label(label, Bytes::new(alloc)))?;
+    }
+    ops.push(Op::Close(Elem(LIST)))?;
+    for i in 0..count {
+        let label = Bytes::from_slice(alloc, &i.to_be_bytes())?;
+        ops.push(Op::Ref(label))?;
+    }
+    Ok(ops)
+}
+
+#[test]
+fn a_hundred_thousand_labels_are_found(rt: HostRuntime) -> Result<(), Fail> {
+    let alloc = rt.alloc();
+    let content = small_model(alloc)?;
+    let arena = Bump::new(alloc);
+    let ops = many(alloc, 100_000)?;
+    let tree = build(alloc, &arena, &ops, &content).ok().ok_or("no tree")?;
+    let linked = resolve(alloc, tree, &content)?;
+    assert_eq!(rt; linked.references(), 100_000);
+    assert_eq!(rt; linked.undefined(), 0);
     Ok(())
 }
