@@ -102,9 +102,12 @@ behind_text r o t u ops (Ok y) says ready =
   where
     by : (z : Outcome) → Alike r (behind (y.0 ++ word t ∷ []) (behind (word u ∷ []) z)) (behind (y.0 ++ word (t ++ u) ∷ []) z)
     by (Err f) = refl
-    by (Ok z) = (refl, λ ls.
-        before_append r (y.0 ++ word t ∷ []) (word u ∷ z.0) ls ∙ before_append r y.0 (word t ∷ []) (all_before r (word u ∷ z.0) ls) ∙ ap (all_before r y.0) (word_twice r t u (all_before r z.0 ls))
-        ∙ sym (before_append r y.0 (word (t ++ u) ∷ []) (all_before r z.0 ls)) ∙ sym (before_append r (y.0 ++ word (t ++ u) ∷ []) z.0 ls))
+    by (Ok z) = (
+      refl,
+      λ ls.
+          before_append r (y.0 ++ word t ∷ []) (word u ∷ z.0) ls ∙ before_append r y.0 (word t ∷ []) (all_before r (word u ∷ z.0) ls) ∙ ap (all_before r y.0) (word_twice r t u (all_before r z.0 ls))
+          ∙ sym (before_append r y.0 (word (t ++ u) ∷ []) (all_before r z.0 ls)) ∙ sym (before_append r (y.0 ++ word (t ++ u) ∷ []) z.0 ls),
+    )
 
 goes_on : (t : Elements) → IsContentModel t → (o : Op) (u : List ℕ) → SaysOnly (rules_of t) o u → (ops more : List Op) (s : List ℕ) → built (rules_of t) (ops ++ Text s ∷ o ∷ more) ≡ built (rules_of t) (ops ++ Text (s ++ u) ∷ more)
 goes_on t model o u says ops more s =
