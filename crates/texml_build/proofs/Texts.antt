@@ -1,5 +1,5 @@
 -- Texts that go on.
-use Rattle.std.proofs.Common.{◌≡◌, ◌∙◌, ap, sym, refl, subst, ℕ, zero, suc, ◌<◌, Bool, true, false, List, [], ◌∷◌, ◌++◌, length, Option, Some, None, Result, Ok, Err, if◌then◌else◌, append_assoc, append-nil, arith}
+use Rattle.std.proofs.Common.{◌≡◌, ◌∙◌, ap, sym, refl, subst, ℕ, zero, suc, ◌<◌, true, List, [], ◌∷◌, ◌++◌, length, Some, None, Ok, Err, if◌then◌else◌, append_assoc, append-nil, arith}
 use Rattle.std.specs.Option.{option_or}
 use Rattle.std.specs.Prelude.{codes}
 use Rattle.texml_tree.specs.declared.table.Elements.{Elements}
@@ -8,10 +8,9 @@ use Rattle.texml_tree.specs.declared.ops.Op.TheVariants.{Text, Space}
 use Rattle.texml_tree.specs.Tree.{Tree, text, element}
 use Rattle.texml_model.specs.Chain.{Holding, chain_of, shortest, chain_between}
 use Rattle.texml_model.specs.Rules.{Rules, IsContentModel, holding_in, rules_of}
-use Rattle.texml_build.specs.Brackets.{Bracket, word, Outcome, Doing, behind, next, innermost, say, fit_or, fit, place, place_by, step, steps, end_all, root_of, brackets}
-use Rattle.texml_build.specs.Matched.{Level, Levels, first, others, joined, root_beginning, whole, text_before, before, all_before, tree_of_brackets, built, built_by}
+use Rattle.texml_build.specs.Brackets.{Bracket, word, Outcome, Doing, behind, next, innermost, say, fit_or, fit, place, place_by, step, steps, end_all, root_of}
+use Rattle.texml_build.specs.Matched.{Levels, first, others, joined, root_beginning, whole, before, all_before, built, built_by}
 use Rattle.texml_build.specs.Trim.{texts}
-use Rattle.texml_build.specs.Valid.{IsModel}
 use Rattle.texml_build.specs.Texts.{TextsGoOn}
 use Rattle.texml_build.proofs.Lawful.{TextReady, place_text, model_of, before_append}
 

@@ -6,7 +6,7 @@ use Rattle.texml_build.specs.Matched.{built}
 use Rattle.texml_build.proofs.Texts.{texts_go_on}
 use Rattle.texml_top.specs.declared.gather.Gathered.{Gathered}
 use Rattle.texml_top.specs.Table.{elements, rules}
-use Rattle.texml_top.specs.Gather.{nothing_yet, text_ops, all_of, with_op, with_space, add, add_all, gathered}
+use Rattle.texml_top.specs.Gather.{nothing_yet, text_ops, all_of, with_op, with_space, add, add_all}
 use Rattle.texml_top.specs.Document.{page_by, document, GatheringKeepsTheDocument}
 use Rattle.texml_top.proofs.Tables.{table_is_model}
 

@@ -1,6 +1,6 @@
 -- Each linked tree is cross-referenced.
-use Rattle.std.proofs.Common.{◌≡◌, ◌≢◌, ◌+◌, ◌<◌, ◌^◌, ℕ, Bool, true, false, cond, List, [], ◌∷◌, ◌++◌, length, Option, Some, None, option_map, unwrap_or, reverse, true≢false, refl, sym, ap, ◌∙◌, subst, arith}
-use Rattle.std.specs.List.{All, find, slice_get}
+use Rattle.std.proofs.Common.{◌≡◌, ◌≢◌, ◌+◌, ℕ, Bool, true, false, cond, List, [], ◌∷◌, ◌++◌, length, Option, Some, None, option_map, unwrap_or, reverse, true≢false, refl, sym, ap, ◌∙◌, subst, arith}
+use Rattle.std.specs.List.{All, find}
 use Rattle.std.specs.Option.{option_or, option_and_then}
 use Rattle.std.proofs.lemmas.Fmt.{decimal_injective}
 use Rattle.std.proofs.lemmas.List.{reverse-append}
@@ -10,8 +10,8 @@ use Rattle.std.proofs.lemmas.Option.{slice_get-map}
 use Rattle.texml_token.specs.Token.{text_eq}
 use Rattle.texml_token.proofs.Table.{text-decides}
 use Rattle.texml_tree.specs.Tree.{Mark, Head}
-use Rattle.texml_xref.specs.Refs.{Link, LinkedTree, identified, id_of, placed, elements_of, mark_of, link_to, owner_from, owner_in, link_in, links_in, link_at}
-use Rattle.texml_top.specs.References.{AllOther, IsLastMark, IsOwner, LeadsTo, IsLinked, IsCrossReferenced}
+use Rattle.texml_xref.specs.Refs.{Link, LinkedTree, identified, id_of, placed, elements_of, mark_of, link_to, owner_from, owner_in, link_in, link_at}
+use Rattle.texml_top.specs.References.{AllOther, IsLastMark, LeadsTo, IsLinked, IsCrossReferenced}
 
 -- Marks
 

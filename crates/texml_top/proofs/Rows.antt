@@ -1,11 +1,9 @@
 -- Digestion and outcomes, computed on small texts.
-use Rattle.std.proofs.Common.{◌≡◌, ℕ, List, [], ◌∷◌, ◌++◌, Option, Some, None, Result, Ok, Err, refl}
+use Rattle.std.proofs.Common.{◌≡◌, ℕ, List, [], ◌∷◌, Option, Some, None, refl}
 use Rattle.std.specs.Prelude.{codes}
 use Rattle.texml_token.specs.declared.fault_code.TheConstants.{NO_GROUP}
-use Rattle.texml_watch.specs.declared.record.Record.{Record}
-use Rattle.texml_expand.specs.State.{Answer, Done, Ended, Unfinished, Tex, Limit, fault_at, added}
+use Rattle.texml_expand.specs.State.{Answer, Done, Ended, Unfinished, Tex, fault_at}
 use Rattle.texml_top.specs.Digest.{digests}
-use Rattle.texml_top.specs.Request.{asked}
 use Rattle.texml_top.specs.declared.request.Command.TheVariants.{Expand}
 use Rattle.texml_top.specs.Outcome.{first_state, IsOutcomeFrom, IsOutcome}
 use Rattle.texml_tree.specs.declared.ops.Op.{Op}

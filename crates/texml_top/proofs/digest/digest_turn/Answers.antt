@@ -5,7 +5,7 @@ use Rattle.texml_expand.specs.Held.{state_of}
 use Rattle.texml_assign.specs.Loop.{On}
 use Rattle.texml_assign.proofs.Readings.{plain_give}
 use Rattle.texml_assign.proofs.Doing.{does_then, does_stop, does_now, does_out}
-use Rattle.texml_top.specs.Gather.{add_all, ops_of}
+use Rattle.texml_top.specs.Gather.{ops_of}
 use Rattle.texml_top.specs.Digest.{digest_token}
 use Rattle.texml_top.proofs.Digesting.{lawful_token, more_seen, lawful_more}
 use Rattle.texml_top.proofs.digest.digest_turn.Goals as goal

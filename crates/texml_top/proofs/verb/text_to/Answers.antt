@@ -2,7 +2,7 @@ use Rattle.std.proofs.Common.{[], Some, refl, ap, ◌++◌, ◌∙◌, rules, ar
 use Rattle.std.specs.Char.{encode_utf8}
 use Rattle.texml_token.specs.Numbers.{token_at}
 use Rattle.texml_token.specs.declared.fault_code.TheConstants.{FILE_ENDED}
-use Rattle.texml_expand.specs.State.{State, room}
+use Rattle.texml_expand.specs.State.{room}
 use Rattle.texml_expand.specs.Held.{Held, state_of}
 use Rattle.texml_expand.specs.Hearing.{hears, hears_part}
 use Rattle.texml_expand.proofs.Falls.{count}
