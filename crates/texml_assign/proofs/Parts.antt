@@ -27,7 +27,7 @@ use Rattle.texml_assign.specs.Meaning.{means}
 use Rattle.texml_assign.specs.Operands.{needed, next_token, token_of, token_or_end, key_of, next_key, is_space, space_turn, spaces_loop, behind_spaces, is_equals, behind_space, behind_sign, behind_equals, meaning_now, meant, with_token, look_ahead}
 use Rattle.texml_assign.specs.Parameters.{Head, text_of, body_of}
 use Rattle.texml_assign.specs.Define.{parameter_text, needed_body, body_said, next_body, macro_of, defined, assigned}
-use Rattle.texml_assign.specs.Sets.{assign, begin_kind, ended, end_kind, read_after, keep_token}
+use Rattle.texml_assign.specs.Sets.{set, assign, begin_kind, ended, end_kind, read_after, keep_token}
 use Rattle.texml_assign.proofs.Readings.{IsUnlimited, unlimited_chain, Lawful, Plain, lawful_plain, lawful_then, plain_by, plain_give, plain_fail, plain_change, plain_if, plain_then}
 use Rattle.texml_assign.proofs.Looping.{LawfulLoop, lawful_loop}
 
@@ -124,12 +124,15 @@ below_room k v (g ∷ gs) =
     let again = below_room k v gs in
     omega (arith, again, sum_by-cons (λ (o : Open Key Value Token Kind). length o.after) (put_below key_eq k v g) (map (put_below key_eq k v) gs), sum_by-cons (λ (o : Open Key Value Token Kind). length o.after) g gs)
 
-pub plain_assign : (global : Bool) (k : Key) (m : Meaning) → Plain (change (assign global k m))
-plain_assign global k m = plain_change (assign global k m) (λ s. by global s)
+pub plain_set : (global : Bool) (k : Key) (v : Value) → Plain (change (set global k v))
+plain_set global k v = plain_change (set global k v) (λ s. by global s)
   where
-    by : (global : Bool) (s : State) → Lower 0 s (assign global k m s)
-    by true s = same_room s (assign true k m s) refl refl refl (let e = below_room k (Means m) s.world.groups in omega arith)
-    by false s = same_room s (assign false k m s) refl refl refl (omega arith)
+    by : (global : Bool) (s : State) → Lower 0 s (set global k v s)
+    by true s = same_room s (set true k v s) refl refl refl (let e = below_room k v s.world.groups in omega arith)
+    by false s = same_room s (set false k v s) refl refl refl (omega arith)
+
+pub plain_assign : (global : Bool) (k : Key) (m : Meaning) → Plain (change (assign global k m))
+plain_assign global k m = plain_set global k (Means m)
 
 -- what follows a name, and what follows its meaning
 abbrev pub key_taken : Bool → ByDepth Meaning → Key → ByDepth (Unit {0})

@@ -1,14 +1,14 @@
 use Rattle.texml_assign.proofs.Worlds.{set_state, scope_kept, set_covered, advances_wrote, advances_stops}
-use Rattle.texml_assign.proofs.sets.assign.Goals as goal
+use Rattle.texml_assign.proofs.sets.set.Goals as goal
 
 pub returns-in-Ok-clause-sets : goal.returns-in-Ok-clause-sets
 returns-in-Ok-clause-sets c =
-    set_state c.args.engine.now c.wrote.new.self c.set_value-set.new.scope c.args.global c.args.key c.args.meaning _ c.requires.sound c.requires.key (rw c.scope.ensures.value at c.in-Ok.ensures.ok) c.wrote.ensures
+    set_state c.args.engine.now c.wrote.new.self c.set_value-set.new.scope c.args.global c.args.key c.args.value _ c.requires.sound c.requires.key (rw c.scope.ensures.value at c.in-Ok.ensures.ok) c.wrote.ensures
 
 pub returns-in-Ok-clause-keeps : goal.returns-in-Ok-clause-keeps
 returns-in-Ok-clause-keeps c =
     let h = c.args.engine.now in
-    let covered = set_covered h c.set_value-set.new.scope c.args.global c.args.key c.args.meaning c.requires.sound c.requires.key c.requires.meaning (rw c.scope.ensures.value at c.in-Ok.ensures.ok) in
+    let covered = set_covered h c.set_value-set.new.scope c.args.global c.args.key c.args.value c.requires.sound c.requires.key c.requires.value (rw c.scope.ensures.value at c.in-Ok.ensures.ok) in
     scope_kept h c.wrote.new.self c.set_value-set.new.scope _ c.requires.sound covered c.wrote.ensures
 
 pub returns-in-Ok-clause-advances : goal.returns-in-Ok-clause-advances
