@@ -7,7 +7,7 @@ use Rattle.texml_expand.specs.State.{State, Answer, Reading, ◌>>=◌, ◌>>◌
 use Rattle.texml_expand.specs.Expand.{level}
 use Rattle.texml_assign.specs.declared.table.Prefix.{Prefix as PrefixWord}
 use Rattle.texml_assign.specs.declared.table.Command.{Command as CommandWord}
-use Rattle.texml_assign.specs.declared.table.Command.TheVariants.{Relax, Def, Gdef, Let, BeginGroup, EndGroup, AfterGroup, AfterAssignment, NewCommand}
+use Rattle.texml_assign.specs.declared.table.Command.TheVariants.{Relax, Def, Gdef, Let, BeginGroup, EndGroup, AfterGroup, AfterAssignment, NewCommand, Assign, Short, Arithmetic}
 use Rattle.texml_assign.specs.declared.table.Executable.{Executable}
 use Rattle.texml_assign.specs.declared.table.Executable.TheVariants.{Prefix, Command}
 use Rattle.texml_assign.specs.declared.table.Prefixes.{Prefixes}
@@ -19,6 +19,9 @@ use Rattle.texml_assign.specs.Meaning.{means}
 use Rattle.texml_assign.specs.Operands.{is_space, meant, with_token}
 use Rattle.texml_assign.specs.Define.{defined, assigned}
 use Rattle.texml_assign.specs.NewCommand.{new_command}
+use Rattle.texml_assign.specs.Assignments.{assignment}
+use Rattle.texml_assign.specs.ShortNames.{short_name}
+use Rattle.texml_assign.specs.Arithmetic.{arithmetic}
 use Rattle.texml_assign.specs.Sets.{begin_kind, end_kind, read_after, keep_token, put_kept}
 
 -- Rows
@@ -34,6 +37,9 @@ row p EndGroup = λ n. end_kind Begin
 row p AfterGroup = λ n. with_token read_after
 row p AfterAssignment = λ n. with_token keep_token
 row p (NewCommand naming) = new_command naming
+row p (Assign target) = assignment p.global target
+row p (Short what) = short_name p.global what
+row p (Arithmetic what) = arithmetic p.global what
 
 -- behind an assignment comes the kept token
 abbrev pub behind : CommandWord → Reading (Unit {0})

@@ -15,14 +15,18 @@ ghost use Rattle.texml_assign.specs.Sets.{read_after as spec_read_after, keep_to
 ghost use Rattle.texml_assign.specs.Execute.{row as spec_row, perform as spec_perform, followed, prefix_word, prefix_turn, prefixed as spec_prefixed, execute_prefixed as spec_execute_prefixed, execute_word as spec_execute_word, execute as spec_execute, executes};
 ghost use Rattle.texml_assign.specs.Behind.{turn_of};
 
+use crate::arithmetic::arithmetic;
+use crate::assignments::assignment;
 use crate::define::{define, let_to};
 use crate::meaning::meaning_of;
 use crate::new_command::new_command;
 use crate::operands::{is_space, next_token};
 use crate::sets::{begin_group, end_group, put_kept, read_after};
+use crate::short_names::short_name;
 use crate::table::{
     Command, Executable, Prefix, Prefixes, executable_at, is_assignment, may_follow, with_prefix,
 };
+use crate::targets::register_of;
 use std::alloc::{AllocError, Global};
 use texml_base::Files;
 use texml_expand::{Engine, Stop};
@@ -161,6 +165,10 @@ fn executable_of(meaning: &Meaning) -> Option<Executable>
 {
     match meaning {
         Meaning::Builtin(place) => executable_at(*place),
+        Meaning::Quantity(key) => match register_of(*key) {
+            Some(target) => Some(Executable::Command(Command::Assign(target))),
+            None => None,
+        },
         _ => None,
     }
 }
@@ -234,6 +242,18 @@ fn row<F: Files, T: Teller>(
         }
         Command::NewCommand(naming) => {
             new_command(alloc, engine, files, tell, naming)?;
+            Ok(())
+        }
+        Command::Assign(target) => {
+            assignment(engine, files, tell, prefixes.global, target)?;
+            Ok(())
+        }
+        Command::Short(what) => {
+            short_name(engine, files, tell, prefixes.global, what)?;
+            Ok(())
+        }
+        Command::Arithmetic(what) => {
+            arithmetic(engine, files, tell, prefixes.global, what)?;
             Ok(())
         }
     }

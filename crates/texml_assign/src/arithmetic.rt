@@ -1,0 +1,252 @@
+//! Values that are counted with.
+
+ghost use Rattle.std.specs.Prelude.{◌≡◌, length, None, Ok, IfOk, OnOk, true};
+ghost use Rattle.texml_token.specs.Numbers.{token_at, TokenWithin};
+ghost use Rattle.texml_scope.specs.Numbers.{key_at};
+ghost use Rattle.texml_expand.specs.Contract.{Silent, outside, stop_after};
+ghost use Rattle.texml_expand.specs.Hearing.{hears, hears_part};
+ghost use Rattle.texml_expand.specs.Held.{state_of, Sound, Kept, ok_at};
+ghost use Rattle.texml_assign.specs.Doing.{Does};
+ghost use Rattle.texml_assign.specs.Targets.{variable_of as spec_variable_of, is_counted as spec_is_counted};
+ghost use Rattle.texml_assign.specs.TargetCodes.{IsCounted, IsCountWithin, IsLike, Suits};
+ghost use Rattle.texml_assign.specs.Arithmetic.{next_counted as spec_next_counted, counted_by as spec_counted_by, count_now as spec_count_now, as_number as spec_as_number, as_dimension as spec_as_dimension, as_glue as spec_as_glue, product as spec_product, quotient as spec_quotient, fits as spec_fits, advanced as spec_advanced, computed as spec_computed, value_from as spec_value_from, arithmetic as spec_arithmetic};
+
+use crate::sets::set;
+use crate::table::Arithmetic;
+use crate::targets::{Target, is_counted, target_key, target_of, variable_of};
+use texml_base::Files;
+use texml_expand::{Engine, Stop};
+use texml_fixed::{Glue, MAX_DIMENSION, MAX_NUMBER, NumFault, Scaled, add, over, times};
+use texml_scope::{Key, Value};
+use texml_token::{Token, fault_code};
+use texml_watch::Teller;
+
+/// What is counted with.
+#[derive(Clone, Copy, Debug, PartialEq, Eq)]
+pub enum Counted {
+    Number(i32),
+    Dimension(Scaled),
+    Glue(Glue),
+}
+
+/// Counts with the value of a variable: what is counted with, the word `by`, which may be missing, and a value. The result takes
+/// the place of the old value.
+///
+/// # Errors
+///
+/// `Tex` with fault 18 where no variable comes that can be counted with, with fault 10 where the result passes its bound or
+/// nothing is divided by 0, with fault 4 at the end of what is to be read, and the faults of the engine's readings. The stops of the
+/// engine.
+pub fn arithmetic<F: Files, T: Teller>(
+    engine: &mut Engine,
+    files: &mut F,
+    tell: &mut T,
+    global: bool,
+    what: Arithmetic,
+) -> Result<(), Stop>
+    requires running { engine.old.stop ≡ None }
+    requires sound { Sound engine.old }
+    ensures does { Does (hears T.wanting T.heard) (hears_part T.wanting T.part) (spec_arithmetic global what) result engine.old engine.new
+        (outside (F.faults files.old) (T.faults tell.old)) (outside (F.faults files.new) (T.faults tell.new)) tell.old tell.new }
+    ensures files { files.new ≡ files.old }
+{
+    let target = next_counted(engine, files, tell)?;
+    let key = target_key(engine, files, tell, target)?;
+    engine.read_keyword(files, tell, b"by")?;
+    let old = count_now(engine, key)?;
+    let new = computed(engine, files, tell, what, old)?;
+    set(engine, global, key, value_from(new))
+}
+
+// What is counted with, which must be a variable that can be.
+fn next_counted<F: Files, T: Teller>(
+    engine: &mut Engine,
+    files: &mut F,
+    tell: &mut T,
+) -> Result<Target, Stop>
+    requires running { engine.old.stop ≡ None }
+    requires sound { Sound engine.old }
+    ensures does { Does (hears T.wanting T.heard) (hears_part T.wanting T.part) spec_next_counted result engine.old engine.new
+        (outside (F.faults files.old) (T.faults tell.old)) (outside (F.faults files.new) (T.faults tell.new)) tell.old tell.new }
+    ensures counted { IfOk result (λ target. spec_is_counted (spec_variable_of target) ≡ true) }
+    ensures files { files.new ≡ files.old }
+{
+    match engine.fetch(files, tell)? {
+        Some(token) => counted_by(engine, token),
+        None => Err(engine.bare_fault(fault_code::FILE_ENDED)),
+    }
+}
+
+// What is counted with, by its token.
+fn counted_by(engine: &mut Engine, token: Token) -> Result<Target, Stop>
+    requires running { engine.old.stop ≡ None }
+    requires sound { Sound engine.old }
+    requires token { TokenWithin (length engine.old.names) token }
+    ensures is { Silent (spec_counted_by (token_at engine.old.names token) (state_of engine.old)) result (state_of engine.new) }
+    ensures kept { engine.new.stop ≡ stop_after result }
+    ensures same { engine.new ≡ record engine.old { stop = engine.new.stop } }
+    ensures keeps { OnOk result (Kept engine.old engine.new) }
+    ensures counted { IfOk result (λ target. spec_is_counted (spec_variable_of target) ≡ true) }
+{
+    let meaning = match engine.means(token) {
+        Ok(meaning) => meaning,
+        Err(_) => return Err(engine.no_memory()),
+    };
+    match target_of(&meaning) {
+        Some(target) if is_counted(variable_of(target)) => Ok(target),
+        _ => Err(engine.bare_fault(fault_code::MISPLACED)),
+    }
+}
+
+// The value of a variable that can be counted with.
+fn count_now(engine: &mut Engine, key: Key) -> Result<Counted, Stop>
+    requires running { engine.old.stop ≡ None }
+    requires sound { Sound engine.old }
+    requires key { IsCounted key }
+    ensures is { Silent (spec_count_now (key_at engine.old.names key) (state_of engine.old)) result (state_of engine.new) }
+    ensures kept { engine.new.stop ≡ stop_after result }
+    ensures same { engine.new ≡ record engine.old { stop = engine.new.stop } }
+    ensures keeps { OnOk result (Kept engine.old engine.new) }
+    ensures suits { IfOk result (Suits key) }
+    ensures within { IfOk result IsCountWithin }
+{
+    let value = match engine.scope().get(&key) {
+        Ok(value) => value,
+        Err(_) => return Err(engine.no_memory()),
+    };
+    match (key, value) {
+        (Key::Dimen(_), Value::Number(value)) => Ok(Counted::Dimension(Scaled(value))),
+        (_, Value::Number(value)) => Ok(Counted::Number(value)),
+        (_, Value::Glue(value)) => Ok(Counted::Glue(value)),
+        _ => unreachable!(),
+    }
+}
+
+// A new value, by what is counted with.
+fn computed<F: Files, T: Teller>(
+    engine: &mut Engine,
+    files: &mut F,
+    tell: &mut T,
+    what: Arithmetic,
+    old: Counted,
+) -> Result<Counted, Stop>
+    requires running { engine.old.stop ≡ None }
+    requires sound { Sound engine.old }
+    requires within { IsCountWithin old }
+    ensures does { Does (hears T.wanting T.heard) (hears_part T.wanting T.part) (spec_computed what old) result engine.old engine.new
+        (outside (F.faults files.old) (T.faults tell.old)) (outside (F.faults files.new) (T.faults tell.new)) tell.old tell.new }
+    ensures like { IfOk result (IsLike old) }
+    ensures files { files.new ≡ files.old }
+{
+    match what {
+        Arithmetic::Advance => advanced(engine, files, tell, old),
+        Arithmetic::Multiply => {
+            let number = engine.read_int(files, tell)?;
+            fits(engine, product(old, number))
+        }
+        Arithmetic::Divide => {
+            let number = engine.read_int(files, tell)?;
+            fits(engine, quotient(old, number))
+        }
+    }
+}
+
+// The sum with what comes next.
+fn advanced<F: Files, T: Teller>(
+    engine: &mut Engine,
+    files: &mut F,
+    tell: &mut T,
+    old: Counted,
+) -> Result<Counted, Stop>
+    requires running { engine.old.stop ≡ None }
+    requires sound { Sound engine.old }
+    requires within { IsCountWithin old }
+    ensures does { Does (hears T.wanting T.heard) (hears_part T.wanting T.part) (spec_advanced old) result engine.old engine.new
+        (outside (F.faults files.old) (T.faults tell.old)) (outside (F.faults files.new) (T.faults tell.new)) tell.old tell.new }
+    ensures like { IfOk result (IsLike old) }
+    ensures files { files.new ≡ files.old }
+{
+    match old {
+        Counted::Number(old) => {
+            let more = engine.read_int(files, tell)?;
+            fits(engine, as_number(add(old, more)))
+        }
+        Counted::Dimension(old) => {
+            let more = engine.read_dimen(files, tell)?;
+            fits(engine, as_dimension(add(old.0, more.0)))
+        }
+        Counted::Glue(old) => {
+            let more = engine.read_glue(files, tell)?;
+            fits(engine, as_glue(old.plus(more)))
+        }
+    }
+}
+
+// A result, which must be within its bound.
+fn fits(engine: &mut Engine, sum: Result<Counted, NumFault>) -> Result<Counted, Stop>
+    requires running { engine.old.stop ≡ None }
+    requires sound { Sound engine.old }
+    ensures fits { Silent (spec_fits sum (state_of engine.old)) result (state_of engine.new) }
+    ensures kept { engine.new.stop ≡ stop_after result }
+    ensures same { engine.new ≡ record engine.old { stop = engine.new.stop } }
+    ensures keeps { OnOk result (Kept engine.old engine.new) }
+    ensures is { IfOk result (λ c. sum ≡ Ok c) }
+{
+    match sum {
+        Ok(value) => Ok(value),
+        Err(_) => Err(engine.bare_fault(fault_code::OVERFLOW)),
+    }
+}
+
+// The product with a number.
+fn product(old: Counted, number: i32) -> Result<Counted, NumFault>
+    ensures is { result ≡ spec_product old number }
+    ensures like { IfOk result (IsLike old) }
+{
+    match old {
+        Counted::Number(old) => as_number(times(old, number, MAX_NUMBER)),
+        Counted::Dimension(old) => as_dimension(times(old.0, number, MAX_DIMENSION)),
+        Counted::Glue(old) => as_glue(old.times(number)),
+    }
+}
+
+// The quotient by a number, rounded towards 0.
+fn quotient(old: Counted, number: i32) -> Result<Counted, NumFault>
+    ensures is { result ≡ spec_quotient old number }
+    ensures like { IfOk result (IsLike old) }
+{
+    match old {
+        Counted::Number(old) => as_number(over(old, number)),
+        Counted::Dimension(old) => as_dimension(over(old.0, number)),
+        Counted::Glue(old) => as_glue(old.over(number)),
+    }
+}
+
+fn as_number(value: Result<i32, NumFault>) -> Result<Counted, NumFault>
+    ensures { result ≡ spec_as_number value }
+{
+    Ok(Counted::Number(value?))
+}
+
+fn as_dimension(value: Result<i32, NumFault>) -> Result<Counted, NumFault>
+    ensures { result ≡ spec_as_dimension value }
+{
+    Ok(Counted::Dimension(Scaled(value?)))
+}
+
+fn as_glue(value: Result<Glue, NumFault>) -> Result<Counted, NumFault>
+    ensures { result ≡ spec_as_glue value }
+{
+    Ok(Counted::Glue(value?))
+}
+
+// The value of a scope that a count is.
+fn value_from(count: Counted) -> Value
+    ensures { result ≡ spec_value_from count }
+{
+    match count {
+        Counted::Number(value) => Value::Number(value),
+        Counted::Dimension(value) => Value::Number(value.0),
+        Counted::Glue(value) => Value::Glue(value),
+    }
+}

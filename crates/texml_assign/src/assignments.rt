@@ -1,0 +1,257 @@
+//! Assignments to variables.
+
+ghost use Rattle.std.specs.Prelude.{◌≡◌, length, None, IfOk, IfSome, OnOk, option_map};
+ghost use Rattle.texml_token.specs.Numbers.{Table, OptionWithin};
+ghost use Rattle.texml_scope.specs.Numbers.{key_at, value_at, meaning_at, KeyWithin, ValueWithin};
+ghost use Rattle.texml_fixed.specs.Arithmetic.{IsWithin};
+ghost use Rattle.texml_scope.specs.World.{MaySet, IsNumber, IsCategory, IsCode, IsGlue, IsList};
+ghost use Rattle.texml_expand.specs.State.{State};
+ghost use Rattle.texml_expand.specs.Contract.{Silent, outside, stop_after};
+ghost use Rattle.texml_expand.specs.Fronts.{looked_at, LookedWithin};
+ghost use Rattle.texml_expand.specs.Hearing.{hears, hears_part};
+ghost use Rattle.texml_expand.specs.Held.{state_of, Sound, Kept, ok_at};
+ghost use Rattle.texml_assign.specs.Doing.{Does};
+ghost use Rattle.texml_assign.specs.TargetCodes.{IsVariable, StartsList, start_or_fault};
+ghost use Rattle.texml_assign.specs.Assignments.{next_number as spec_next_number, next_category as spec_next_category, next_code as spec_next_code, next_dimension as spec_next_dimension, next_glue as spec_next_glue, list_of as spec_list_of, list_start as spec_list_start, list_from as spec_list_from, next_list as spec_next_list, value_for as spec_value_for, assignment as spec_assignment};
+
+use crate::fillers::{Filler, first_behind, optional_equals};
+use crate::sets::set;
+use crate::targets::{Target, is_list, target_key, target_of, variable_of};
+use texml_base::Files;
+use texml_expand::{Engine, Index, Looked, Stop};
+use texml_scope::{Key, Meaning, Value};
+use texml_token::{category, fault_code};
+use texml_watch::Teller;
+
+/// Where a list of tokens comes from: a group, or a register.
+#[derive(Clone, Copy, Debug, PartialEq, Eq)]
+pub enum ListStart {
+    Group,
+    Register(Target),
+}
+
+/// Assigns to a variable: what is assigned to, an equals sign, which may be missing, and a value.
+///
+/// # Errors
+///
+/// `Tex` with fault 11 where a register, a character or a category has no such number, with fault 22 where no list of tokens
+/// comes, with fault 4 where a text ends in one, and the faults of the engine's readings. The stops of the engine.
+pub fn assignment<F: Files, T: Teller>(
+    engine: &mut Engine,
+    files: &mut F,
+    tell: &mut T,
+    global: bool,
+    target: Target,
+) -> Result<(), Stop>
+    requires running { engine.old.stop ≡ None }
+    requires sound { Sound engine.old }
+    ensures does { Does (hears T.wanting T.heard) (hears_part T.wanting T.part) (spec_assignment global target) result engine.old engine.new
+        (outside (F.faults files.old) (T.faults tell.old)) (outside (F.faults files.new) (T.faults tell.new)) tell.old tell.new }
+    ensures files { files.new ≡ files.old }
+{
+    let key = target_key(engine, files, tell, target)?;
+    optional_equals(engine, files, tell)?;
+    let value = value_for(engine, files, tell, key)?;
+    set(engine, global, key, value)
+}
+
+// What a key is assigned.
+fn value_for<F: Files, T: Teller>(
+    engine: &mut Engine,
+    files: &mut F,
+    tell: &mut T,
+    key: Key,
+) -> Result<Value, Stop>
+    requires running { engine.old.stop ≡ None }
+    requires sound { Sound engine.old }
+    requires key { IsVariable key }
+    ensures does { Does (hears T.wanting T.heard) (hears_part T.wanting T.part) (spec_value_for (key_at engine.old.names key)) (ok_at (value_at engine.new.names) result) engine.old engine.new
+        (outside (F.faults files.old) (T.faults tell.old)) (outside (F.faults files.new) (T.faults tell.new)) tell.old tell.new }
+    ensures within { IfOk result (ValueWithin (length engine.new.names)) }
+    ensures may { IfOk result (MaySet key) }
+    ensures files { files.new ≡ files.old }
+{
+    match key {
+        Key::Cat(_) => next_category(engine, files, tell),
+        Key::Lower(_) | Key::Upper(_) => next_code(engine, files, tell),
+        Key::Dimen(_) => next_dimension(engine, files, tell),
+        Key::Skip(_) => next_glue(engine, files, tell),
+        Key::Toks(_) => next_list(engine, files, tell),
+        _ => next_number(engine, files, tell),
+    }
+}
+
+// The number that comes next.
+fn next_number<F: Files, T: Teller>(
+    engine: &mut Engine,
+    files: &mut F,
+    tell: &mut T,
+) -> Result<Value, Stop>
+    requires running { engine.old.stop ≡ None }
+    requires sound { Sound engine.old }
+    ensures does { Does (hears T.wanting T.heard) (hears_part T.wanting T.part) spec_next_number (ok_at (value_at engine.new.names) result) engine.old engine.new
+        (outside (F.faults files.old) (T.faults tell.old)) (outside (F.faults files.new) (T.faults tell.new)) tell.old tell.new }
+    ensures kind { IfOk result (IsNumber IsWithin) }
+    ensures files { files.new ≡ files.old }
+{
+    let number = engine.read_int(files, tell)?;
+    Ok(Value::Number(number))
+}
+
+// The category that comes next: a number from 0 to 15.
+fn next_category<F: Files, T: Teller>(
+    engine: &mut Engine,
+    files: &mut F,
+    tell: &mut T,
+) -> Result<Value, Stop>
+    requires running { engine.old.stop ≡ None }
+    requires sound { Sound engine.old }
+    ensures does { Does (hears T.wanting T.heard) (hears_part T.wanting T.part) spec_next_category (ok_at (value_at engine.new.names) result) engine.old engine.new
+        (outside (F.faults files.old) (T.faults tell.old)) (outside (F.faults files.new) (T.faults tell.new)) tell.old tell.new }
+    ensures kind { IfOk result (IsNumber IsCategory) }
+    ensures files { files.new ≡ files.old }
+{
+    let number = engine.read_int(files, tell)?;
+    if number < 0 || number > i32::from(category::INVALID) {
+        return Err(engine.bare_fault(fault_code::BAD_CODE));
+    }
+    Ok(Value::Number(number))
+}
+
+// The number of a character that comes next.
+fn next_code<F: Files, T: Teller>(
+    engine: &mut Engine,
+    files: &mut F,
+    tell: &mut T,
+) -> Result<Value, Stop>
+    requires running { engine.old.stop ≡ None }
+    requires sound { Sound engine.old }
+    ensures does { Does (hears T.wanting T.heard) (hears_part T.wanting T.part) spec_next_code (ok_at (value_at engine.new.names) result) engine.old engine.new
+        (outside (F.faults files.old) (T.faults tell.old)) (outside (F.faults files.new) (T.faults tell.new)) tell.old tell.new }
+    ensures kind { IfOk result (IsNumber IsCode) }
+    ensures files { files.new ≡ files.old }
+{
+    let code = engine.read_index(files, tell, Index::Character)?;
+    Ok(Value::Number(code as i32))
+}
+
+// The dimension that comes next.
+fn next_dimension<F: Files, T: Teller>(
+    engine: &mut Engine,
+    files: &mut F,
+    tell: &mut T,
+) -> Result<Value, Stop>
+    requires running { engine.old.stop ≡ None }
+    requires sound { Sound engine.old }
+    ensures does { Does (hears T.wanting T.heard) (hears_part T.wanting T.part) spec_next_dimension (ok_at (value_at engine.new.names) result) engine.old engine.new
+        (outside (F.faults files.old) (T.faults tell.old)) (outside (F.faults files.new) (T.faults tell.new)) tell.old tell.new }
+    ensures kind { IfOk result (IsNumber IsWithin) }
+    ensures files { files.new ≡ files.old }
+{
+    let dimension = engine.read_dimen(files, tell)?;
+    Ok(Value::Number(dimension.0))
+}
+
+// The glue that comes next.
+fn next_glue<F: Files, T: Teller>(
+    engine: &mut Engine,
+    files: &mut F,
+    tell: &mut T,
+) -> Result<Value, Stop>
+    requires running { engine.old.stop ≡ None }
+    requires sound { Sound engine.old }
+    ensures does { Does (hears T.wanting T.heard) (hears_part T.wanting T.part) spec_next_glue (ok_at (value_at engine.new.names) result) engine.old engine.new
+        (outside (F.faults files.old) (T.faults tell.old)) (outside (F.faults files.new) (T.faults tell.new)) tell.old tell.new }
+    ensures kind { IfOk result (IsGlue) }
+    ensures files { files.new ≡ files.old }
+{
+    let glue = engine.read_glue(files, tell)?;
+    Ok(Value::Glue(glue))
+}
+
+// The list of tokens that comes next, behind spaces and `\relax`: a group, or that of a register.
+fn next_list<F: Files, T: Teller>(
+    engine: &mut Engine,
+    files: &mut F,
+    tell: &mut T,
+) -> Result<Value, Stop>
+    requires running { engine.old.stop ≡ None }
+    requires sound { Sound engine.old }
+    ensures does { Does (hears T.wanting T.heard) (hears_part T.wanting T.part) spec_next_list (ok_at (value_at engine.new.names) result) engine.old engine.new
+        (outside (F.faults files.old) (T.faults tell.old)) (outside (F.faults files.new) (T.faults tell.new)) tell.old tell.new }
+    ensures kind { IfOk result IsList }
+    ensures within { IfOk result (ValueWithin (length engine.new.names)) }
+    ensures files { files.new ≡ files.old }
+{
+    let first = first_behind(engine, files, tell, Filler::SpacesAndRelax)?;
+    let start = list_start(engine, first)?;
+    list_from(engine, files, tell, start)
+}
+
+// Where a list comes from, by the token that begins it.
+fn list_start(engine: &mut Engine, first: Option<Looked>) -> Result<ListStart, Stop>
+    requires running { engine.old.stop ≡ None }
+    requires sound { Sound engine.old }
+    requires first { OptionWithin (LookedWithin (length engine.old.names)) first }
+    ensures starts { Silent (spec_list_start (option_map (looked_at engine.old.names) first) (state_of engine.old)) result (state_of engine.new) }
+    ensures kept { engine.new.stop ≡ stop_after result }
+    ensures is { engine.new ≡ record engine.old { stop = engine.new.stop } }
+    ensures keeps { OnOk result (Kept engine.old engine.new) }
+    ensures list { IfOk result StartsList }
+{
+    let Some(looked) = first else {
+        return Err(engine.bare_fault(fault_code::FILE_ENDED));
+    };
+    match engine.means(looked.counts) {
+        Ok(meaning) => match list_of(&meaning) {
+            Some(start) => Ok(start),
+            None => Err(engine.bare_fault(fault_code::MISSING_BRACE)),
+        },
+        Err(_) => Err(engine.no_memory()),
+    }
+}
+
+// Where a list comes from, by a meaning, if it begins one.
+fn list_of(meaning: &Meaning) -> Option<ListStart>
+    ensures is { (texts : Table) → (s : State) → spec_list_of (meaning_at texts meaning.now) s ≡ start_or_fault result s }
+    ensures list { IfSome result StartsList }
+{
+    if let Meaning::Char(_, category) = meaning {
+        return (*category == category::BEGIN_GROUP).then_some(ListStart::Group);
+    }
+    match target_of(meaning) {
+        Some(target) if is_list(variable_of(target)) => Some(ListStart::Register(target)),
+        _ => None,
+    }
+}
+
+// The list behind its start.
+fn list_from<F: Files, T: Teller>(
+    engine: &mut Engine,
+    files: &mut F,
+    tell: &mut T,
+    start: ListStart,
+) -> Result<Value, Stop>
+    requires running { engine.old.stop ≡ None }
+    requires sound { Sound engine.old }
+    requires list { StartsList start }
+    ensures does { Does (hears T.wanting T.heard) (hears_part T.wanting T.part) (spec_list_from start) (ok_at (value_at engine.new.names) result) engine.old engine.new
+        (outside (F.faults files.old) (T.faults tell.old)) (outside (F.faults files.new) (T.faults tell.new)) tell.old tell.new }
+    ensures kind { IfOk result IsList }
+    ensures within { IfOk result (ValueWithin (length engine.new.names)) }
+    ensures files { files.new ≡ files.old }
+{
+    match start {
+        ListStart::Group => {
+            let list = engine.absorb(files, tell)?;
+            Ok(Value::List(list))
+        }
+        ListStart::Register(target) => {
+            let key = target_key(engine, files, tell, target)?;
+            match engine.scope().get(&key) {
+                Ok(value) => Ok(value),
+                Err(_) => Err(engine.no_memory()),
+            }
+        }
+    }
+}

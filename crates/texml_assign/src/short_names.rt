@@ -1,0 +1,70 @@
+//! Names for characters and registers.
+
+ghost use Rattle.std.specs.Prelude.{◌≡◌, length, None, IfOk};
+ghost use Rattle.texml_token.specs.Numbers.{Table};
+ghost use Rattle.texml_scope.specs.Numbers.{meaning_at, MeaningWithin};
+ghost use Rattle.texml_expand.specs.Contract.{outside};
+ghost use Rattle.texml_expand.specs.Hearing.{hears, hears_part};
+ghost use Rattle.texml_expand.specs.Held.{state_of, Sound};
+ghost use Rattle.texml_expand.specs.VariableCodes.{HasNumber};
+ghost use Rattle.texml_assign.specs.Doing.{Does};
+ghost use Rattle.texml_assign.specs.ShortNames.{short_index as spec_short_index, short_meaning as spec_short_meaning, short_name as spec_short_name};
+
+use crate::fillers::optional_equals;
+use crate::operands::next_key;
+use crate::sets::assign;
+use crate::table::ShortFor;
+use texml_base::Files;
+use texml_expand::{Engine, Index, Stop, key_of};
+use texml_scope::Meaning;
+use texml_scope::builtins::RELAX;
+use texml_watch::Teller;
+
+/// Gives a name a character or a register: the name, which means `\relax` from then on, an equals sign, which may be missing, and
+/// the number.
+///
+/// # Errors
+///
+/// `Tex` with fault 18 where no name comes, with fault 11 where there is no such character or register, and the faults of
+/// `Engine::read_int`. The stops of the engine.
+pub fn short_name<F: Files, T: Teller>(
+    engine: &mut Engine,
+    files: &mut F,
+    tell: &mut T,
+    global: bool,
+    what: ShortFor,
+) -> Result<(), Stop>
+    requires running { engine.old.stop ≡ None }
+    requires sound { Sound engine.old }
+    ensures does { Does (hears T.wanting T.heard) (hears_part T.wanting T.part) (spec_short_name global what) result engine.old engine.new
+        (outside (F.faults files.old) (T.faults tell.old)) (outside (F.faults files.new) (T.faults tell.new)) tell.old tell.new }
+    ensures files { files.new ≡ files.old }
+{
+    let key = next_key(engine, files, tell)?;
+    assign(engine, global, key, Meaning::Builtin(RELAX))?;
+    optional_equals(engine, files, tell)?;
+    let number = engine.read_index(files, tell, short_index(what))?;
+    assign(engine, global, key, short_meaning(what, number))
+}
+
+// What is read for it.
+fn short_index(what: ShortFor) -> Index
+    ensures { result ≡ spec_short_index what }
+{
+    match what {
+        ShortFor::Character => Index::Character,
+        ShortFor::Register(_) => Index::Register,
+    }
+}
+
+// What a name for the character or the register of this number means.
+fn short_meaning(what: ShortFor, number: u32) -> Meaning
+    requires { HasNumber (spec_short_index what) number }
+    ensures is { (texts : Table) → meaning_at texts result ≡ spec_short_meaning what number }
+    ensures within { (count : ℕ) → MeaningWithin count result }
+{
+    match what {
+        ShortFor::Character => Meaning::Number(number),
+        ShortFor::Register(variable) => Meaning::Quantity(key_of(variable, number)),
+    }
+}
