@@ -237,8 +237,8 @@ fn behind_equals<F: Files, T: Teller>(
     behind_space(engine, files, tell, next)
 }
 
-// Whether a token is an equals sign.
-fn is_equals(token: Token) -> bool
+/// Whether a token is the character `=` of category 12.
+pub fn is_equals(token: Token) -> bool
     ensures { (texts : Table) → result ≡ spec_is_equals (token_at texts token) }
 {
     match token {
