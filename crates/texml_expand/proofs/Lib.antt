@@ -12,10 +12,13 @@ pub mod Stopping
 pub mod Leading
 pub mod Deciding
 pub mod Calling
-pub mod Order
-pub mod Falls
+pub mod Readings
+pub mod Lawful
+pub mod Looking
+pub mod Levels
 pub mod Settle
 pub mod Total
+pub mod Public
 pub mod Meeting
 mod Rows
 pub mod Judging
