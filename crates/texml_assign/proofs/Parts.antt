@@ -20,11 +20,12 @@ use Rattle.texml_expand.specs.Expand.{take_given, take, back, put}
 use Rattle.texml_expand.specs.Contract.{Lower}
 use Rattle.texml_expand.specs.Rest.{Tok}
 use Rattle.texml_expand.proofs.Items.{size-cons, size_put}
-use Rattle.texml_expand.proofs.Falls.{Leads, leads_chain, leads_weaker, lower_none, lower_then, count, take_leads}
-use Rattle.texml_expand.proofs.Settle.{any, chain_decided, take_decided}
+use Rattle.texml_expand.proofs.Leading.{Leads, leads_chain, leads_weaker, lower_none, lower_then, count, take_leads}
+use Rattle.texml_expand.proofs.Deciding.{any, chain_decided, take_decided}
 use Rattle.texml_assign.specs.Loop.{ByDepth, On, Over}
-use Rattle.texml_assign.specs.Meaning.{means}
-use Rattle.texml_assign.specs.Operands.{needed, next_token, token_of, token_or_end, key_of, next_key, is_space, space_turn, spaces_loop, behind_spaces, is_equals, behind_space, behind_sign, behind_equals, meaning_now, meant, with_token, look_ahead}
+use Rattle.texml_expand.specs.Take.{means}
+use Rattle.texml_expand.specs.Arguments.{means_space}
+use Rattle.texml_assign.specs.Operands.{needed, next_token, token_of, token_or_end, key_of, next_key, space_turn, spaces_loop, behind_spaces, is_equals, behind_space, behind_sign, behind_equals, meaning_now, meant, with_token, look_ahead}
 use Rattle.texml_assign.specs.Parameters.{Head, text_of, body_of}
 use Rattle.texml_assign.specs.Define.{parameter_text, needed_body, body_said, next_body, macro_of, defined, assigned}
 use Rattle.texml_assign.specs.Sets.{set, assign, begin_kind, ended, end_kind, read_after, keep_token}
@@ -77,9 +78,9 @@ token_lowers s = leads_chain (λ o t. Lower (count o) s t) (λ o t. Lower (count
 -- Spaces
 
 pub plain_space_turn : (seen : Unit {0}) (t : Token) → Plain (λ s. space_turn seen t 0 s)
-plain_space_turn seen t = plain_by (λ s. means s.world t) (λ m. give (if is_space m then On tt else Over t)) (λ m. plain_give _)
+plain_space_turn seen t = plain_by (λ s. means s.world t) (λ m. give (if means_space m then On tt else Over t)) (λ m. plain_give _)
 
-pub space_is : (b : Bool) (t : Token) (s : State) → is_space (means s.world t) ≡ b → space_turn tt t 0 s ≡ Done (if b then On tt else Over t) s nothing
+pub space_is : (b : Bool) (t : Token) (s : State) → means_space (means s.world t) ≡ b → space_turn tt t 0 s ≡ Done (if b then On tt else Over t) s nothing
 space_is b t s e = ap (λ x. Done (if x then On tt else Over t) s nothing) e
 
 pub spaces_laws : LawfulLoop spaces_loop
@@ -94,7 +95,7 @@ pub lawful_spaces : Lawful behind_spaces
 lawful_spaces = lawful_loop spaces_loop spaces_laws tt
 
 pub plain_behind_space : (t : Token) → Plain (behind_space t)
-plain_behind_space t = plain_by (λ s. means s.world t) (λ m. if is_space m then next_token else give t) (λ m. plain_if (is_space m) next_token (give t) plain_next (plain_give t))
+plain_behind_space t = plain_by (λ s. means s.world t) (λ m. if means_space m then next_token else give t) (λ m. plain_if (means_space m) next_token (give t) plain_next (plain_give t))
 
 pub plain_behind_sign : Plain behind_sign
 plain_behind_sign = plain_then next_token behind_space plain_next plain_behind_space

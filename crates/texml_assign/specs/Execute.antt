@@ -4,7 +4,7 @@ use Rattle.texml_token.specs.Token.{Token}
 use Rattle.texml_token.specs.declared.fault_code.TheConstants.{FILE_ENDED, BAD_PREFIX}
 use Rattle.texml_scope.specs.declared.values.KindOf.TheVariants.{Begin}
 use Rattle.texml_expand.specs.State.{State, Answer, Reading, ◌>>=◌, ◌>>◌, give, fail, change}
-use Rattle.texml_expand.specs.Expand.{level}
+use Rattle.texml_expand.specs.Expand.{fetch}
 use Rattle.texml_assign.specs.declared.table.Prefix.{Prefix as PrefixWord}
 use Rattle.texml_assign.specs.declared.table.Command.{Command as CommandWord}
 use Rattle.texml_assign.specs.declared.table.Command.TheVariants.{Relax, Def, Gdef, Let, BeginGroup, EndGroup, AfterGroup, AfterAssignment, NewCommand, Assign, Short, Arithmetic}
@@ -14,9 +14,10 @@ use Rattle.texml_assign.specs.declared.table.Prefixes.{Prefixes}
 use Rattle.texml_assign.specs.declared.executing.Executed.{Executed}
 use Rattle.texml_assign.specs.declared.executing.Executed.TheVariants.{Yes, NotMine}
 use Rattle.texml_assign.specs.Table.{executable_of, is_assignment, no_prefixes, with_prefix, may_follow}
+use Rattle.texml_expand.specs.Arguments.{means_space}
 use Rattle.texml_assign.specs.Loop.{ByDepth, Next, On, Over, Loop, loops}
-use Rattle.texml_assign.specs.Meaning.{means}
-use Rattle.texml_assign.specs.Operands.{is_space, meant, with_token}
+use Rattle.texml_expand.specs.Take.{means}
+use Rattle.texml_assign.specs.Operands.{meant, with_token}
 use Rattle.texml_assign.specs.Define.{defined, assigned}
 use Rattle.texml_assign.specs.NewCommand.{new_command}
 use Rattle.texml_assign.specs.Assignments.{assignment}
@@ -65,10 +66,10 @@ prefix_word p (Some (Command c)) = followed p c
 
 -- a token behind prefixes, by its meaning; spaces say nothing
 abbrev pub prefix_turn : Prefixes → Token → ByDepth (Next Prefixes (Prefixes × CommandWord))
-prefix_turn p t n s = (if is_space (means s.world t) then give (On p) else prefix_word p (executable_of (means s.world t))) s
+prefix_turn p t n s = (if means_space (means s.world t) then give (On p) else prefix_word p (executable_of (means s.world t))) s
 
 abbrev pub prefix_loop : Loop Prefixes (Prefixes × CommandWord)
-prefix_loop = record { source = λ n. (level n).fetch; turn = prefix_turn; end = λ p. fail FILE_ENDED [] }
+prefix_loop = record { source = fetch; turn = prefix_turn; end = λ p. fail FILE_ENDED [] }
 
 -- the command behind prefixes, with all that stand before it. Tokens are expanded as they are looked at
 abbrev pub prefixed : Prefixes → ByDepth (Prefixes × CommandWord)

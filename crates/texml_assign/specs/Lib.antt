@@ -1,6 +1,5 @@
 pub mod Table
 pub mod Loop
-pub mod Meaning
 pub mod Operands
 pub mod Sets
 pub mod Parameters

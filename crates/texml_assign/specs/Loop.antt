@@ -2,10 +2,7 @@
 use Rattle.std.specs.Prelude.{ℕ, zero, suc, Option, None, Some}
 use Rattle.texml_token.specs.Token.{Token}
 use Rattle.texml_expand.specs.State.{nothing, Unfinished, Reading, ◌>>=◌, give}
-
--- what is read where calls are nested at most so deep
-abbrev pub ByDepth : Type 0 → Type 0
-ByDepth A = ℕ → Reading A
+pub use Rattle.texml_expand.specs.Expand.{ByDepth}
 
 -- the loop goes on with this, or is over with that
 pub data Next (S A : Type 0) : Type 0 where

@@ -12,7 +12,6 @@ mod assignments;
 mod define;
 mod executing;
 mod fillers;
-mod meaning;
 mod new_command;
 mod operands;
 mod parameters;
@@ -22,5 +21,4 @@ mod table;
 mod targets;
 
 pub use executing::{Executed, execute};
-pub use meaning::meaning_of;
 pub use sets::{begin_group, end_group};
