@@ -1,7 +1,7 @@
 -- \advance, \multiply and \divide (The TeXbook, chapters 15 and 24).
 use Rattle.std.specs.Prelude.{ℤ, ◌+ℤ◌, ◌*ℤ◌, Bool, if◌then◌else◌, [], Option, None, Some, Result, Ok, Err, codes}
 use Rattle.texml_token.specs.Token.{Token}
-use Rattle.texml_token.specs.declared.fault_code.TheConstants.{MISPLACED, OVERFLOW}
+use Rattle.texml_token.specs.declared.fault_code.TheConstants.{FILE_ENDED, MISPLACED, OVERFLOW}
 use Rattle.texml_fixed.specs.declared.fault.NumFault.{NumFault}
 use Rattle.texml_fixed.specs.declared.fault.NumFault.TheVariants.{Overflow}
 use Rattle.texml_fixed.specs.declared.arithmetic.TheConstants.{MAX_NUMBER, MAX_DIMENSION}
@@ -20,7 +20,6 @@ use Rattle.texml_assign.specs.declared.table.Arithmetic.{Arithmetic}
 use Rattle.texml_assign.specs.declared.table.Arithmetic.TheVariants.{Advance, Multiply, Divide}
 use Rattle.texml_assign.specs.declared.arithmetic.Counted.{Counted}
 use Rattle.texml_assign.specs.declared.arithmetic.Counted.TheVariants.{Number, Dimension, Glue}
-use Rattle.texml_assign.specs.Operands.{needed}
 use Rattle.texml_assign.specs.Sets.{set}
 use Rattle.texml_assign.specs.Targets.{target_of, variable_of, target_key, is_counted}
 
@@ -34,11 +33,14 @@ counted (Some target) = if is_counted (variable_of target) then give target else
 abbrev pub counted_by : Token → Reading Target
 counted_by t s = counted (target_of (means s.world t)) s
 
+abbrev pub counted_of : Option Token → Reading Target
+counted_of None = fail FILE_ENDED []
+counted_of (Some t) = counted_by t
+
 abbrev pub next_counted : ByDepth Target
 next_counted n = do
   o ← fetch n
-  t ← needed o
-  counted_by t
+  counted_of o
 
 -- its value: a list of tokens is none to count with
 abbrev pub count_of : Internal → Reading Counted
@@ -111,12 +113,30 @@ value_from (Number i) = values.Number i
 value_from (Dimension d) = values.Number d.0
 value_from (Glue g) = values.Glue g
 
--- what is counted with, the word by, which may be missing, and a value. The result takes the place of the old value
+-- the new value takes the place of the old one
+abbrev pub count_on : Bool → Arithmetic → Key → Counted → ByDepth (Unit {0})
+count_on global what k old n = do
+  c ← computed what old n
+  change (set global k (value_from c))
+
+abbrev pub count_with : Bool → Arithmetic → Key → ByDepth (Unit {0})
+count_with global what k n = do
+  old ← count_now k
+  count_on global what k old n
+
+-- the word by may be missing
+abbrev pub count_by : Bool → Arithmetic → Key → ByDepth (Unit {0})
+count_by global what k n = do
+  read_keyword (codes "by") n
+  count_with global what k n
+
+abbrev pub count_target : Bool → Arithmetic → Target → ByDepth (Unit {0})
+count_target global what target n = do
+  k ← target_key target n
+  count_by global what k n
+
+-- what is counted with, the word by, which may be missing, and a value
 abbrev pub arithmetic : Bool → Arithmetic → ByDepth (Unit {0})
 arithmetic global what n = do
   target ← next_counted n
-  k ← target_key target n
-  read_keyword (codes "by") n
-  a ← count_now k
-  c ← computed what a n
-  change (set global k (value_from c))
+  count_target global what target n

@@ -67,20 +67,30 @@ list_start (Some x) s = list_of (means s.world x.as) s
 abbrev pub value_now : Key → Reading Value
 value_now k s = give (s.world.top k) s
 
-abbrev pub list_from : ListStart → ByDepth Value
-list_from Group n = do
+abbrev pub absorbed_list : Reading Value
+absorbed_list = do
   list ← absorb
   give (values.List list)
-list_from (Register target) n = do
+
+abbrev pub copied_list : Target → ByDepth Value
+copied_list target n = do
   k ← target_key target n
   value_now k
+
+abbrev pub list_from : ListStart → ByDepth Value
+list_from Group = λ n. absorbed_list
+list_from (Register target) = copied_list target
+
+abbrev pub list_by : Option Looked → ByDepth Value
+list_by o n = do
+  start ← list_start o
+  list_from start n
 
 -- spaces and \relax may stand before it
 abbrev pub next_list : ByDepth Value
 next_list n = do
   o ← first_behind SpacesAndRelax n
-  start ← list_start o
-  list_from start n
+  list_by o n
 
 -- Values
 
@@ -94,10 +104,20 @@ value_for (keys.Skip r) = next_glue
 value_for (keys.Toks r) = next_list
 value_for k = next_number
 
--- an assignment: what is assigned to, an equals sign, which may be missing, and a value
+-- a value for a key
+abbrev pub assign_next : Bool → Key → ByDepth (Unit {0})
+assign_next global k n = do
+  v ← value_for k n
+  change (set global k v)
+
+-- behind an equals sign, which may be missing
+abbrev pub assign_to : Bool → Key → ByDepth (Unit {0})
+assign_to global k n = do
+  optional_equals n
+  assign_next global k n
+
+-- an assignment: what is assigned to, an equals sign and a value
 abbrev pub assignment : Bool → Target → ByDepth (Unit {0})
 assignment global target n = do
   k ← target_key target n
-  optional_equals n
-  v ← value_for k n
-  change (set global k v)
+  assign_to global k n

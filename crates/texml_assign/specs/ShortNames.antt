@@ -1,6 +1,6 @@
 -- Names for characters and registers (The TeXbook, chapters 8, 15 and 24).
 use Rattle.std.specs.Prelude.{ℕ, Bool}
-use Rattle.texml_scope.specs.Texts.{Meaning}
+use Rattle.texml_scope.specs.Texts.{Key, Meaning}
 use Rattle.texml_scope.specs.declared.builtins.TheConstants.{RELAX}
 use Rattle.texml_scope.specs.declared.values.MeaningOf.TheVariants.{Builtin, Quantity, Number}
 use Rattle.texml_expand.specs.declared.variables.Index.{Index}
@@ -23,11 +23,25 @@ abbrev pub short_meaning : ShortFor → ℕ → Meaning
 short_meaning Character c = Number c
 short_meaning (Register v) r = Quantity (key_of v r)
 
--- a name, which means \relax while the number is read
+-- the number, and what the name means from then on
+abbrev pub short_number : Bool → ShortFor → Key → ByDepth (Unit {0})
+short_number global what k n = do
+  number ← read_index (short_index what) n
+  change (assign global k (short_meaning what number))
+
+-- behind an equals sign, which may be missing
+abbrev pub short_equals : Bool → ShortFor → Key → ByDepth (Unit {0})
+short_equals global what k n = do
+  optional_equals n
+  short_number global what k n
+
+-- the name means \relax while the number is read
+abbrev pub short_key : Bool → ShortFor → Key → ByDepth (Unit {0})
+short_key global what k n = do
+  change (assign global k (Builtin RELAX))
+  short_equals global what k n
+
 abbrev pub short_name : Bool → ShortFor → ByDepth (Unit {0})
 short_name global what n = do
   k ← next_key
-  change (assign global k (Builtin RELAX))
-  optional_equals n
-  number ← read_index (short_index what) n
-  change (assign global k (short_meaning what number))
+  short_key global what k n

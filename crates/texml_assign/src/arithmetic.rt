@@ -1,7 +1,7 @@
 //! Values that are counted with.
 
-ghost use Rattle.std.specs.Prelude.{◌≡◌, length, None, Ok, IfOk, OnOk, true};
-ghost use Rattle.texml_token.specs.Numbers.{token_at, TokenWithin};
+ghost use Rattle.std.specs.Prelude.{◌≡◌, length, None, Ok, IfOk, OnOk, true, option_map};
+ghost use Rattle.texml_token.specs.Numbers.{token_at, TokenWithin, OptionWithin};
 ghost use Rattle.texml_scope.specs.Numbers.{key_at};
 ghost use Rattle.texml_expand.specs.Contract.{Silent, outside, stop_after};
 ghost use Rattle.texml_expand.specs.Hearing.{hears, hears_part};
@@ -9,7 +9,7 @@ ghost use Rattle.texml_expand.specs.Held.{state_of, Sound, Kept, ok_at};
 ghost use Rattle.texml_assign.specs.Doing.{Does};
 ghost use Rattle.texml_assign.specs.Targets.{variable_of as spec_variable_of, is_counted as spec_is_counted};
 ghost use Rattle.texml_assign.specs.TargetCodes.{IsCounted, IsCountWithin, IsLike, Suits};
-ghost use Rattle.texml_assign.specs.Arithmetic.{next_counted as spec_next_counted, counted_by as spec_counted_by, count_now as spec_count_now, as_number as spec_as_number, as_dimension as spec_as_dimension, as_glue as spec_as_glue, product as spec_product, quotient as spec_quotient, fits as spec_fits, advanced as spec_advanced, computed as spec_computed, value_from as spec_value_from, arithmetic as spec_arithmetic};
+ghost use Rattle.texml_assign.specs.Arithmetic.{next_counted as spec_next_counted, counted_by as spec_counted_by, counted_of as spec_counted_of, count_now as spec_count_now, as_number as spec_as_number, as_dimension as spec_as_dimension, as_glue as spec_as_glue, product as spec_product, quotient as spec_quotient, fits as spec_fits, advanced as spec_advanced, computed as spec_computed, value_from as spec_value_from, count_on as spec_count_on, count_with as spec_count_with, count_by as spec_count_by, count_target as spec_count_target, arithmetic as spec_arithmetic};
 
 use crate::sets::set;
 use crate::table::Arithmetic;
@@ -20,6 +20,9 @@ use texml_fixed::{Glue, MAX_DIMENSION, MAX_NUMBER, NumFault, Scaled, add, over, 
 use texml_scope::{Key, Value};
 use texml_token::{Token, fault_code};
 use texml_watch::Teller;
+
+// The word before a value.
+const BY: &[u8] = b"by";
 
 /// What is counted with.
 #[derive(Clone, Copy, Debug, PartialEq, Eq)]
@@ -51,9 +54,88 @@ pub fn arithmetic<F: Files, T: Teller>(
     ensures files { files.new ≡ files.old }
 {
     let target = next_counted(engine, files, tell)?;
+    count_target(engine, files, tell, global, what, target)
+}
+
+// Counts with what is assigned to.
+fn count_target<F: Files, T: Teller>(
+    engine: &mut Engine,
+    files: &mut F,
+    tell: &mut T,
+    global: bool,
+    what: Arithmetic,
+    target: Target,
+) -> Result<(), Stop>
+    requires running { engine.old.stop ≡ None }
+    requires sound { Sound engine.old }
+    requires counted { spec_is_counted (spec_variable_of target) ≡ true }
+    ensures does { Does (hears T.wanting T.heard) (hears_part T.wanting T.part) (spec_count_target global what target) result engine.old engine.new
+        (outside (F.faults files.old) (T.faults tell.old)) (outside (F.faults files.new) (T.faults tell.new)) tell.old tell.new }
+    ensures files { files.new ≡ files.old }
+{
     let key = target_key(engine, files, tell, target)?;
-    engine.read_keyword(files, tell, b"by")?;
+    count_by(engine, files, tell, global, what, key)
+}
+
+// Counts with the value of a key, behind the word `by`, which may be missing.
+fn count_by<F: Files, T: Teller>(
+    engine: &mut Engine,
+    files: &mut F,
+    tell: &mut T,
+    global: bool,
+    what: Arithmetic,
+    key: Key,
+) -> Result<(), Stop>
+    requires running { engine.old.stop ≡ None }
+    requires sound { Sound engine.old }
+    requires key { IsCounted key }
+    ensures does { Does (hears T.wanting T.heard) (hears_part T.wanting T.part) (spec_count_by global what (key_at engine.old.names key)) result engine.old engine.new
+        (outside (F.faults files.old) (T.faults tell.old)) (outside (F.faults files.new) (T.faults tell.new)) tell.old tell.new }
+    ensures files { files.new ≡ files.old }
+{
+    engine.read_keyword(files, tell, BY)?;
+    count_with(engine, files, tell, global, what, key)
+}
+
+// Counts with the value of a key.
+fn count_with<F: Files, T: Teller>(
+    engine: &mut Engine,
+    files: &mut F,
+    tell: &mut T,
+    global: bool,
+    what: Arithmetic,
+    key: Key,
+) -> Result<(), Stop>
+    requires running { engine.old.stop ≡ None }
+    requires sound { Sound engine.old }
+    requires key { IsCounted key }
+    ensures does { Does (hears T.wanting T.heard) (hears_part T.wanting T.part) (spec_count_with global what (key_at engine.old.names key)) result engine.old engine.new
+        (outside (F.faults files.old) (T.faults tell.old)) (outside (F.faults files.new) (T.faults tell.new)) tell.old tell.new }
+    ensures files { files.new ≡ files.old }
+{
     let old = count_now(engine, key)?;
+    count_on(engine, files, tell, global, what, key, old)
+}
+
+// Counts with this value of a key.
+fn count_on<F: Files, T: Teller>(
+    engine: &mut Engine,
+    files: &mut F,
+    tell: &mut T,
+    global: bool,
+    what: Arithmetic,
+    key: Key,
+    old: Counted,
+) -> Result<(), Stop>
+    requires running { engine.old.stop ≡ None }
+    requires sound { Sound engine.old }
+    requires key { IsCounted key }
+    requires suits { Suits key old }
+    requires within { IsCountWithin old }
+    ensures does { Does (hears T.wanting T.heard) (hears_part T.wanting T.part) (spec_count_on global what (key_at engine.old.names key) old) result engine.old engine.new
+        (outside (F.faults files.old) (T.faults tell.old)) (outside (F.faults files.new) (T.faults tell.new)) tell.old tell.new }
+    ensures files { files.new ≡ files.old }
+{
     let new = computed(engine, files, tell, what, old)?;
     set(engine, global, key, value_from(new))
 }
@@ -71,7 +153,22 @@ fn next_counted<F: Files, T: Teller>(
     ensures counted { IfOk result (λ target. spec_is_counted (spec_variable_of target) ≡ true) }
     ensures files { files.new ≡ files.old }
 {
-    match engine.fetch(files, tell)? {
+    let next = engine.fetch(files, tell)?;
+    counted_of(engine, next)
+}
+
+// What is counted with, by its token, which must be there.
+fn counted_of(engine: &mut Engine, next: Option<Token>) -> Result<Target, Stop>
+    requires running { engine.old.stop ≡ None }
+    requires sound { Sound engine.old }
+    requires next { OptionWithin (TokenWithin (length engine.old.names)) next }
+    ensures is { Silent (spec_counted_of (option_map (token_at engine.old.names) next) (state_of engine.old)) result (state_of engine.new) }
+    ensures kept { engine.new.stop ≡ stop_after result }
+    ensures same { engine.new ≡ record engine.old { stop = engine.new.stop } }
+    ensures keeps { OnOk result (Kept engine.old engine.new) }
+    ensures counted { IfOk result (λ target. spec_is_counted (spec_variable_of target) ≡ true) }
+{
+    match next {
         Some(token) => counted_by(engine, token),
         None => Err(engine.bare_fault(fault_code::FILE_ENDED)),
     }

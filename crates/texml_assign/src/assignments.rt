@@ -1,6 +1,6 @@
 //! Assignments to variables.
 
-ghost use Rattle.std.specs.Prelude.{◌≡◌, length, None, IfOk, IfSome, OnOk, option_map};
+ghost use Rattle.std.specs.Prelude.{◌≡◌, length, None, true, IfOk, IfSome, OnOk, option_map};
 ghost use Rattle.texml_token.specs.Numbers.{Table, OptionWithin};
 ghost use Rattle.texml_scope.specs.Numbers.{key_at, value_at, meaning_at, KeyWithin, ValueWithin};
 ghost use Rattle.texml_fixed.specs.Arithmetic.{IsWithin};
@@ -11,8 +11,9 @@ ghost use Rattle.texml_expand.specs.Fronts.{looked_at, LookedWithin};
 ghost use Rattle.texml_expand.specs.Hearing.{hears, hears_part};
 ghost use Rattle.texml_expand.specs.Held.{state_of, Sound, Kept, ok_at};
 ghost use Rattle.texml_assign.specs.Doing.{Does};
+ghost use Rattle.texml_assign.specs.Targets.{variable_of as spec_variable_of, is_list as is_list_variable};
 ghost use Rattle.texml_assign.specs.TargetCodes.{IsVariable, StartsList, start_or_fault};
-ghost use Rattle.texml_assign.specs.Assignments.{next_number as spec_next_number, next_category as spec_next_category, next_code as spec_next_code, next_dimension as spec_next_dimension, next_glue as spec_next_glue, list_of as spec_list_of, list_start as spec_list_start, list_from as spec_list_from, next_list as spec_next_list, value_for as spec_value_for, assignment as spec_assignment};
+ghost use Rattle.texml_assign.specs.Assignments.{next_number as spec_next_number, next_category as spec_next_category, next_code as spec_next_code, next_dimension as spec_next_dimension, next_glue as spec_next_glue, list_of as spec_list_of, list_start as spec_list_start, absorbed_list as spec_absorbed_list, copied_list as spec_copied_list, list_from as spec_list_from, list_by as spec_list_by, next_list as spec_next_list, value_for as spec_value_for, assign_next as spec_assign_next, assign_to as spec_assign_to, assignment as spec_assignment};
 
 use crate::fillers::{Filler, first_behind, optional_equals};
 use crate::sets::set;
@@ -50,7 +51,43 @@ pub fn assignment<F: Files, T: Teller>(
     ensures files { files.new ≡ files.old }
 {
     let key = target_key(engine, files, tell, target)?;
+    assign_to(engine, files, tell, global, key)
+}
+
+// Assigns to a key, behind an equals sign, which may be missing.
+fn assign_to<F: Files, T: Teller>(
+    engine: &mut Engine,
+    files: &mut F,
+    tell: &mut T,
+    global: bool,
+    key: Key,
+) -> Result<(), Stop>
+    requires running { engine.old.stop ≡ None }
+    requires sound { Sound engine.old }
+    requires key { IsVariable key }
+    ensures does { Does (hears T.wanting T.heard) (hears_part T.wanting T.part) (spec_assign_to global (key_at engine.old.names key)) result engine.old engine.new
+        (outside (F.faults files.old) (T.faults tell.old)) (outside (F.faults files.new) (T.faults tell.new)) tell.old tell.new }
+    ensures files { files.new ≡ files.old }
+{
     optional_equals(engine, files, tell)?;
+    assign_next(engine, files, tell, global, key)
+}
+
+// Assigns the value that comes next to a key.
+fn assign_next<F: Files, T: Teller>(
+    engine: &mut Engine,
+    files: &mut F,
+    tell: &mut T,
+    global: bool,
+    key: Key,
+) -> Result<(), Stop>
+    requires running { engine.old.stop ≡ None }
+    requires sound { Sound engine.old }
+    requires key { IsVariable key }
+    ensures does { Does (hears T.wanting T.heard) (hears_part T.wanting T.part) (spec_assign_next global (key_at engine.old.names key)) result engine.old engine.new
+        (outside (F.faults files.old) (T.faults tell.old)) (outside (F.faults files.new) (T.faults tell.new)) tell.old tell.new }
+    ensures files { files.new ≡ files.old }
+{
     let value = value_for(engine, files, tell, key)?;
     set(engine, global, key, value)
 }
@@ -184,6 +221,25 @@ fn next_list<F: Files, T: Teller>(
     ensures files { files.new ≡ files.old }
 {
     let first = first_behind(engine, files, tell, Filler::SpacesAndRelax)?;
+    list_by(engine, files, tell, first)
+}
+
+// The list that a token begins.
+fn list_by<F: Files, T: Teller>(
+    engine: &mut Engine,
+    files: &mut F,
+    tell: &mut T,
+    first: Option<Looked>,
+) -> Result<Value, Stop>
+    requires running { engine.old.stop ≡ None }
+    requires sound { Sound engine.old }
+    requires first { OptionWithin (LookedWithin (length engine.old.names)) first }
+    ensures does { Does (hears T.wanting T.heard) (hears_part T.wanting T.part) (spec_list_by (option_map (looked_at engine.old.names) first)) (ok_at (value_at engine.new.names) result) engine.old engine.new
+        (outside (F.faults files.old) (T.faults tell.old)) (outside (F.faults files.new) (T.faults tell.new)) tell.old tell.new }
+    ensures kind { IfOk result IsList }
+    ensures within { IfOk result (ValueWithin (length engine.new.names)) }
+    ensures files { files.new ≡ files.old }
+{
     let start = list_start(engine, first)?;
     list_from(engine, files, tell, start)
 }
@@ -242,16 +298,48 @@ fn list_from<F: Files, T: Teller>(
     ensures files { files.new ≡ files.old }
 {
     match start {
-        ListStart::Group => {
-            let list = engine.absorb(files, tell)?;
-            Ok(Value::List(list))
-        }
-        ListStart::Register(target) => {
-            let key = target_key(engine, files, tell, target)?;
-            match engine.scope().get(&key) {
-                Ok(value) => Ok(value),
-                Err(_) => Err(engine.no_memory()),
-            }
-        }
+        ListStart::Group => absorbed_list(engine, files, tell),
+        ListStart::Register(target) => copied_list(engine, files, tell, target),
+    }
+}
+
+// The list of a group.
+fn absorbed_list<F: Files, T: Teller>(
+    engine: &mut Engine,
+    files: &mut F,
+    tell: &mut T,
+) -> Result<Value, Stop>
+    requires running { engine.old.stop ≡ None }
+    requires sound { Sound engine.old }
+    ensures does { Does (hears T.wanting T.heard) (hears_part T.wanting T.part) (λ n. spec_absorbed_list) (ok_at (value_at engine.new.names) result) engine.old engine.new
+        (outside (F.faults files.old) (T.faults tell.old)) (outside (F.faults files.new) (T.faults tell.new)) tell.old tell.new }
+    ensures kind { IfOk result IsList }
+    ensures within { IfOk result (ValueWithin (length engine.new.names)) }
+    ensures files { files.new ≡ files.old }
+{
+    let list = engine.absorb(files, tell)?;
+    Ok(Value::List(list))
+}
+
+// The list of a register.
+fn copied_list<F: Files, T: Teller>(
+    engine: &mut Engine,
+    files: &mut F,
+    tell: &mut T,
+    target: Target,
+) -> Result<Value, Stop>
+    requires running { engine.old.stop ≡ None }
+    requires sound { Sound engine.old }
+    requires list { is_list_variable (spec_variable_of target) ≡ true }
+    ensures does { Does (hears T.wanting T.heard) (hears_part T.wanting T.part) (spec_copied_list target) (ok_at (value_at engine.new.names) result) engine.old engine.new
+        (outside (F.faults files.old) (T.faults tell.old)) (outside (F.faults files.new) (T.faults tell.new)) tell.old tell.new }
+    ensures kind { IfOk result IsList }
+    ensures within { IfOk result (ValueWithin (length engine.new.names)) }
+    ensures files { files.new ≡ files.old }
+{
+    let key = target_key(engine, files, tell, target)?;
+    match engine.scope().get(&key) {
+        Ok(value) => Ok(value),
+        Err(_) => Err(engine.no_memory()),
     }
 }

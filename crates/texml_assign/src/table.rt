@@ -110,17 +110,11 @@ pub fn executable_at(place: u16) -> Option<Executable>
         DIMENDEF => Some(short(Variable::Dimen)),
         SKIPDEF => Some(short(Variable::Skip)),
         TOKSDEF => Some(short(Variable::Toks)),
-        ADVANCE => Some(Executable::Command(Command::Arithmetic(
-            Arithmetic::Advance,
-        ))),
-        MULTIPLY => Some(Executable::Command(Command::Arithmetic(
-            Arithmetic::Multiply,
-        ))),
+        ADVANCE => Some(Executable::Command(Command::Arithmetic(Arithmetic::Advance))),
+        MULTIPLY => Some(Executable::Command(Command::Arithmetic(Arithmetic::Multiply))),
         DIVIDE => Some(Executable::Command(Command::Arithmetic(Arithmetic::Divide))),
         _ => match variable_at(place) {
-            Some(variable) => Some(Executable::Command(Command::Assign(Target::Behind(
-                variable,
-            )))),
+            Some(variable) => Some(Executable::Command(Command::Assign(Target::Behind(variable)))),
             None => None,
         },
     }
