@@ -21,6 +21,8 @@ pub mod Total
 pub mod Public
 pub mod Meeting
 mod Rows
+pub mod Scanning
+pub mod Printing
 pub mod Judging
 pub mod Fronts
 pub mod Rounds

@@ -267,13 +267,10 @@ impl Engine {
         ensures limit { IsAtLimit result self.new }
         ensures keeps { OnOk result (Kept self.old self.new) }
     {
-        let mut list = Tokens::new(self.alloc);
-        for x in seen {
-            if let Err(_) = list.push(x.token) {
-                return Err(self.no_memory());
-            }
+        match tokens_seen(self.alloc, seen) {
+            Ok(list) => self.put(&list),
+            Err(_) => Err(self.no_memory()),
         }
-        self.put(&list)
     }
 
     // The character of a number.
@@ -366,6 +363,17 @@ impl Engine {
             Err(_) => Err(self.no_memory()),
         }
     }
+}
+
+// The tokens that were looked at.
+fn tokens_seen(alloc: Global, seen: &[Seen]) -> Result<Tokens, AllocError>
+    ensures { IfOk result (λ list. list ≡ map (λ x. x.token) seen.now) }
+{
+    let mut list = Tokens::new(alloc);
+    for x in seen {
+        list.push(x.token)?;
+    }
+    Ok(list)
 }
 
 // The fault of a scanner.
