@@ -1,22 +1,18 @@
 -- Each command has one answer, and leaves no more to be read.
-use Rattle.std.proofs.Common.{◌≡◌, true, false, if◌then◌else◌, [], length, Option, Some, None, refl, ap, arith}
+use Rattle.std.proofs.Common.{◌≡◌, ℕ, true, false, if◌then◌else◌, [], length, Option, Some, None, refl, ap, arith}
 use Rattle.std.specs.Option.{option_map, option_to_list}
 use Rattle.texml_token.specs.Token.{Token}
 use Rattle.texml_token.specs.declared.fault_code.TheConstants.{BAD_PREFIX}
 use Rattle.texml_scope.specs.declared.values.KindOf.TheVariants.{Begin}
 use Rattle.texml_expand.specs.State.{State, give, fail, change}
-use Rattle.texml_expand.specs.Quantities.{Looked, expanded}
-use Rattle.texml_expand.specs.Expand.{back, level, counted, fetched, fetch}
+use Rattle.texml_expand.specs.Expand.{back, fetch}
 use Rattle.texml_expand.specs.Contract.{Lower}
 use Rattle.texml_expand.specs.Rest.{Tok}
 use Rattle.texml_expand.proofs.Items.{size-cons}
-use Rattle.texml_expand.proofs.Leading.{Leads, leads_chain, lower_none, count}
-use Rattle.texml_expand.proofs.Levels.{level_falls}
-use Rattle.texml_expand.proofs.Looking.{expanded_leads}
-use Rattle.texml_expand.proofs.Public.{lawful_fetched}
+use Rattle.texml_expand.proofs.Leading.{lower_none}
 use Rattle.texml_assign.specs.declared.table.Prefix.{Prefix as PrefixWord}
 use Rattle.texml_assign.specs.declared.table.Command.{Command as CommandWord}
-use Rattle.texml_assign.specs.declared.table.Command.TheVariants.{Relax, Def, Gdef, Let, BeginGroup, EndGroup, AfterGroup, AfterAssignment, NewCommand}
+use Rattle.texml_assign.specs.declared.table.Command.TheVariants.{Relax, Def, Gdef, Let, BeginGroup, EndGroup, AfterGroup, AfterAssignment, NewCommand, Assign, Short, Arithmetic}
 use Rattle.texml_assign.specs.declared.table.Executable.{Executable}
 use Rattle.texml_assign.specs.declared.table.Executable.TheVariants.{Prefix, Command}
 use Rattle.texml_assign.specs.declared.table.Prefixes.{Prefixes}
@@ -29,9 +25,10 @@ use Rattle.texml_assign.specs.Operands.{meant, with_token}
 use Rattle.texml_assign.specs.Define.{defined}
 use Rattle.texml_assign.specs.Sets.{begin_kind, end_kind, read_after, keep, keep_token, put_kept_of, put_kept}
 use Rattle.texml_assign.specs.Execute.{row, behind, perform, followed, prefix_word, prefix_turn, prefix_loop, prefixed, execute_prefixed, execute_word, execute_by, execute}
-use Rattle.texml_assign.proofs.Readings.{Lawful, Plain, lawful_calls, lawful_plain, lawful_by, lawful_then, plain_by, plain_give, plain_fail, plain_change, plain_if}
+use Rattle.texml_assign.proofs.Readings.{Lawful, Plain, lawful_plain, lawful_by, lawful_then, plain_by, plain_give, plain_fail, plain_change, plain_if}
 use Rattle.texml_assign.proofs.Looping.{LawfulLoop, lawful_loop}
 pub use Rattle.texml_assign.proofs.Parts.{plain_after_assignment, body_taken, head_taken, key_taken, lawful_assigned, lawful_key_taken, lawful_meant, lawful_spaces, meant_behind, plain_absorb, plain_after_group, plain_assign, plain_begin, plain_behind_equals, plain_behind_sign, plain_behind_space, plain_body_said, plain_by_least, plain_defined, plain_end, plain_head_taken, plain_key_of, plain_look_ahead, plain_meaning_now, plain_meant_behind, plain_needed, plain_needed_body, plain_next, plain_next_body, plain_next_key, plain_parameter_text, plain_space_turn, plain_take, plain_token_or_end, plain_with_token, same_room, space_is, spaces_laws, text_taken, token_takes}
+use Rattle.texml_assign.proofs.Quantities.{lawful_fetch, fetch_leads, lawful_assignment, lawful_short_name, lawful_arithmetic}
 use Rattle.texml_assign.proofs.NewCommands.{lawful_new_command}
 
 -- Rows
@@ -58,6 +55,9 @@ lawful_row p EndGroup = lawful_plain (end_kind Begin) (plain_end Begin)
 lawful_row p AfterGroup = lawful_plain (with_token read_after) plain_after_group
 lawful_row p AfterAssignment = lawful_plain (with_token keep_token) plain_after_assignment
 lawful_row p (NewCommand naming) = lawful_new_command naming
+lawful_row p (Assign target) = lawful_assignment p.global target
+lawful_row p (Short what) = lawful_short_name p.global what
+lawful_row p (Arithmetic what) = lawful_arithmetic p.global what
 
 pub lawful_perform : (p : Prefixes) (c : CommandWord) → Lawful (perform p c)
 lawful_perform p c = lawful_then (row p c) (λ _ n. behind c) (lawful_row p c) (λ _. lawful_plain (behind c) (plain_behind c))
@@ -77,18 +77,6 @@ pub plain_prefix_turn : (p : Prefixes) (t : Token) → Plain (λ s. prefix_turn 
 plain_prefix_turn p t =
     plain_by (λ s. means s.world t) (λ m. if means_space m then give (On p) else prefix_word p (executable_of m))
     (λ m. plain_if (means_space m) (give (On p)) (prefix_word p (executable_of m)) (plain_give _) (plain_word p (executable_of m)))
-
-counted_same : (o : Option Looked) → count (option_map (λ x. x.as) o) ≡ count o
-counted_same None = refl
-counted_same (Some x) = refl
-
-pub lawful_fetch : Lawful fetch
-lawful_fetch = lawful_calls fetched lawful_fetched
-
--- each token that is fetched leaves less to be read
-pub fetch_leads : (n : ℕ) (s : State) → Leads (λ o t. Lower (count o) s t) (fetch n s)
-fetch_leads n s =
-    leads_chain (λ o t. Lower (count o) s t) (λ o t. Lower (count o) s t) (expanded (level n) s) counted (expanded_leads (level n) (level_falls n) s) (λ o t low. rw (counted_same o) low)
 
 pub prefix_laws : LawfulLoop prefix_loop
 prefix_laws = record {

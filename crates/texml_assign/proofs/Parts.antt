@@ -159,13 +159,13 @@ needed_one (Some x) s t low = low
 next_lowers : (s : State) → Leads (λ t u. Lower 1 s u) (next_token s)
 next_lowers s = leads_chain (λ o t. Lower (count o) s t) (λ t u. Lower 1 s u) (token_or_end s) needed (token_lowers s) (λ o t low. needed_one o s t low)
 
-kept_lower : (s t u : State) → Lower 1 s t → u.limit ≡ t.limit → u.nesting ≡ t.nesting → u.begun ≡ t.begun → room u ≤ room t + 1 → Lower 0 s u
+pub kept_lower : (s t u : State) → Lower 1 s t → u.limit ≡ t.limit → u.nesting ≡ t.nesting → u.begun ≡ t.begun → room u ≤ room t + 1 → Lower 0 s u
 kept_lower s t u low limit nesting begun more = record {
   limit = limit ∙ low.limit;
   nesting = nesting ∙ low.nesting;
   begun = let b = low.begun in omega arith;
   size = λ e. let l = low.size (sym begun ∙ e) in omega arith;
-  within = λ w. let l = low.within w in omega arith;
+  within = λ w. let b = low.within (omega arith) in omega arith;
 }
 
 -- a token that is taken, and then kept somewhere

@@ -62,7 +62,7 @@ list_of m = register_list (target_of m)
 
 abbrev pub list_start : Option Looked → Reading ListStart
 list_start None s = fail FILE_ENDED [] s
-list_start (Some x) s = list_of (means s.world x.as) s
+list_start (Some x) s = list_of (means s.world x.counts) s
 
 abbrev pub value_now : Key → Reading Value
 value_now k s = give (s.world.top k) s

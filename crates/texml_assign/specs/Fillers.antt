@@ -22,7 +22,7 @@ fills Spaces m = means_space m
 fills SpacesAndRelax m = means_space m || is_relax m
 
 abbrev pub filler_turn : Filler → Unit {0} → Looked → ByDepth (Next (Unit {0}) (Option Looked))
-filler_turn f seen x n s = give (if fills f (means s.world x.as) then On tt else Over (Some x)) s
+filler_turn f seen x n s = give (if fills f (means s.world x.counts) then On tt else Over (Some x)) s
 
 abbrev pub filler_loop : Filler → LoopOver Looked (Unit {0}) (Option Looked)
 filler_loop f = record { source = λ n. expanded (level n); turn = filler_turn f; end = λ seen. give None }
@@ -34,7 +34,7 @@ first_behind f = loops (filler_loop f) tt
 -- a token that is no equals sign goes back
 abbrev pub past_equals : Option Looked → Reading (Unit {0})
 past_equals None = give tt
-past_equals (Some x) = if is_equals x.as then give tt else change (back x.token false)
+past_equals (Some x) = if is_equals x.counts then give tt else change (back x.token false)
 
 -- spaces and an equals sign, which may be missing
 abbrev pub optional_equals : ByDepth (Unit {0})

@@ -10,18 +10,19 @@ use Rattle.texml_expand.specs.Variables.{key_of}
 use Rattle.texml_expand.specs.Expand.{ByDepth, read_index}
 use Rattle.texml_assign.specs.declared.table.ShortFor.{ShortFor}
 use Rattle.texml_assign.specs.declared.table.ShortFor.TheVariants.{Character, Register}
+use Rattle.texml_assign.specs.Targets.{variable_in}
 use Rattle.texml_assign.specs.Operands.{next_key}
 use Rattle.texml_assign.specs.Sets.{assign}
 use Rattle.texml_assign.specs.Fillers.{optional_equals}
 
 abbrev pub short_index : ShortFor → Index
 short_index Character = index.Character
-short_index (Register v) = index.Register
+short_index (Register r) = index.Register
 
 -- what a name for the character or the register of this number means
 abbrev pub short_meaning : ShortFor → ℕ → Meaning
 short_meaning Character c = Number c
-short_meaning (Register v) r = Quantity (key_of v r)
+short_meaning (Register r) number = Quantity (key_of (variable_in r) number)
 
 -- the number, and what the name means from then on
 abbrev pub short_number : Bool → ShortFor → Key → ByDepth (Unit {0})

@@ -4,7 +4,7 @@ use Rattle.std.specs.Option.{option_map}
 use Rattle.texml_scope.specs.Texts.{Meaning}
 use Rattle.texml_scope.specs.declared.values.MeaningOf.TheVariants.{Builtin, Quantity}
 use Rattle.texml_scope.specs.declared.builtins.TheConstants.{RELAX, DEF, GDEF, LET, LONG, OUTER, GLOBAL, BEGINGROUP, ENDGROUP, AFTERGROUP, AFTERASSIGNMENT, NEWCOMMAND, RENEWCOMMAND, PROVIDECOMMAND, CHARDEF, COUNTDEF, DIMENDEF, SKIPDEF, TOKSDEF, ADVANCE, MULTIPLY, DIVIDE}
-use Rattle.texml_expand.specs.declared.variables.Variable.TheVariants.{Count, Dimen, Skip, Toks}
+use Rattle.texml_assign.specs.declared.targets.Registers.TheVariants.{Count, Dimen, Skip, Toks}
 use Rattle.texml_expand.specs.Variables.{variable_at}
 use Rattle.texml_assign.specs.declared.targets.Target.{Target}
 use Rattle.texml_assign.specs.declared.targets.Target.TheVariants.{Behind}

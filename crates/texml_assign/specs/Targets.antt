@@ -9,15 +9,17 @@ use Rattle.texml_expand.specs.declared.variables.Variable.TheVariants.{EscapeCha
 use Rattle.texml_expand.specs.Variables.{variable_at, key_of}
 use Rattle.texml_expand.specs.Expand.{ByDepth, read_key}
 use Rattle.texml_expand.specs.State.{give}
+use Rattle.texml_assign.specs.declared.targets.Registers.{Registers}
+use Rattle.texml_assign.specs.declared.targets.Registers.TheVariants as registers
 use Rattle.texml_assign.specs.declared.targets.Target.{Target}
 use Rattle.texml_assign.specs.declared.targets.Target.TheVariants.{Behind, Named}
 
 -- the register that a name stands for
 abbrev pub register_of : Key → Option Target
-register_of (keys.Count n) = Some (Named Count n)
-register_of (keys.Dimen n) = Some (Named Dimen n)
-register_of (keys.Skip n) = Some (Named Skip n)
-register_of (keys.Toks n) = Some (Named Toks n)
+register_of (keys.Count n) = Some (Named registers.Count n)
+register_of (keys.Dimen n) = Some (Named registers.Dimen n)
+register_of (keys.Skip n) = Some (Named registers.Skip n)
+register_of (keys.Toks n) = Some (Named registers.Toks n)
 register_of k = None
 
 -- what a meaning lets assign to, if it does
@@ -26,14 +28,20 @@ target_of (Builtin place) = option_map Behind (variable_at place)
 target_of (Quantity k) = register_of k
 target_of m = None
 
+abbrev pub variable_in : Registers → Variable
+variable_in registers.Count = Count
+variable_in registers.Dimen = Dimen
+variable_in registers.Skip = Skip
+variable_in registers.Toks = Toks
+
 abbrev pub variable_of : Target → Variable
 variable_of (Behind v) = v
-variable_of (Named v n) = v
+variable_of (Named r n) = variable_in r
 
 -- the key that is assigned to, behind its index where it has no name
 abbrev pub target_key : Target → ByDepth Key
 target_key (Behind v) = read_key v
-target_key (Named v index) = λ n. give (key_of v index)
+target_key (Named r number) = λ n. give (key_of (variable_in r) number)
 
 -- whether the values of a variable can be counted with: numbers, dimensions and glue, but no codes of characters
 abbrev pub is_counted : Variable → Bool

@@ -1,16 +1,19 @@
 //! What may stand before a value.
 
-ghost use Rattle.std.specs.Prelude.{◌≡◌, length, None, IfOk, option_map};
-ghost use Rattle.texml_token.specs.Numbers.{Table, OptionWithin};
+ghost use Rattle.std.specs.Prelude.{◌≡◌, length, None, IfOk, OnOk, option_map};
+ghost use Rattle.texml_token.specs.Numbers.{Table, token_at, TokenWithin, OptionWithin};
+ghost use Rattle.texml_expand.specs.Take.{means};
 ghost use Rattle.texml_scope.specs.Numbers.{meaning_at};
-ghost use Rattle.texml_expand.specs.Contract.{outside};
+ghost use Rattle.texml_expand.specs.Contract.{Silent, outside, stop_after};
 ghost use Rattle.texml_expand.specs.Hearing.{hears, hears_part};
-ghost use Rattle.texml_expand.specs.Held.{state_of, Sound, ok_at};
+ghost use Rattle.texml_expand.specs.Held.{state_of, Sound, Kept, ok_at};
 ghost use Rattle.texml_expand.specs.Fronts.{looked_at, LookedWithin};
+ghost use Rattle.texml_assign.specs.Advance.{Advances};
 ghost use Rattle.texml_assign.specs.Doing.{Does};
-ghost use Rattle.texml_assign.specs.Fillers.{is_relax as spec_is_relax, fills as spec_fills, first_behind as spec_first_behind, optional_equals as spec_optional_equals};
+ghost use Rattle.texml_assign.specs.Fillers.{is_relax as spec_is_relax, fills as spec_fills, first_behind as spec_first_behind, past_equals as spec_past_equals, optional_equals as spec_optional_equals};
 
 use crate::operands::is_equals;
+use crate::sets::put_back;
 use std::alloc::AllocError;
 use texml_base::Files;
 use texml_expand::{Engine, Looked, Stop, means_space};
@@ -72,10 +75,12 @@ pub fn first_behind<F: Files, T: Teller>(
                 Some(looked) => looked,
                 None => return Ok(None),
             };
-            match may_fill(engine, filler, looked.counts) {
-                Ok(true) => {}
-                Ok(false) => return Ok(Some(looked)),
+            let passes = match may_fill(engine, filler, looked.counts) {
+                Ok(passes) => passes,
                 Err(_) => return Err(engine.no_memory()),
+            };
+            if !passes {
+                return Ok(Some(looked));
             }
             if engine.begun() != begun {
                 break;
@@ -111,8 +116,25 @@ pub fn optional_equals<F: Files, T: Teller>(
         (outside (F.faults files.old) (T.faults tell.old)) (outside (F.faults files.new) (T.faults tell.new)) tell.old tell.new }
     ensures files { files.new ≡ files.old }
 {
-    match first_behind(engine, files, tell, Filler::Spaces)? {
-        Some(looked) if !is_equals(looked.counts) => engine.back(looked.token, false),
-        _ => Ok(()),
+    let first = first_behind(engine, files, tell, Filler::Spaces)?;
+    past_equals(engine, first)
+}
+
+// Puts a token that is no equals sign back.
+fn past_equals(engine: &mut Engine, first: Option<Looked>) -> Result<(), Stop>
+    requires running { engine.old.stop ≡ None }
+    requires sound { Sound engine.old }
+    requires first { OptionWithin (LookedWithin (length engine.old.names)) first }
+    ensures is { Silent (spec_past_equals (option_map (looked_at engine.old.names) first) (state_of engine.old)) result (state_of engine.new) }
+    ensures kept { engine.new.stop ≡ stop_after result }
+    ensures keeps { OnOk result (Kept engine.old engine.new) }
+    ensures advances { Advances engine.old engine.new }
+{
+    let Some(looked) = first else {
+        return Ok(());
+    };
+    if is_equals(looked.counts) {
+        return Ok(());
     }
+    put_back(engine, looked.token)
 }

@@ -1,6 +1,6 @@
 //! Names for characters and registers.
 
-ghost use Rattle.std.specs.Prelude.{◌≡◌, length, None, IfOk};
+ghost use Rattle.std.specs.Prelude.{◌≡◌, ℕ, length, None, IfOk};
 ghost use Rattle.texml_token.specs.Numbers.{Table};
 ghost use Rattle.texml_scope.specs.Numbers.{MeaningCode, key_at, meaning_at, KeyWithin, MeaningWithin};
 ghost use Rattle.texml_scope.specs.World.{MaySet};
@@ -16,8 +16,9 @@ use crate::fillers::optional_equals;
 use crate::operands::next_key;
 use crate::sets::assign;
 use crate::table::ShortFor;
+use crate::targets::register_key;
 use texml_base::Files;
-use texml_expand::{Engine, Index, Stop, key_of};
+use texml_expand::{Engine, Index, Stop};
 use texml_scope::builtins::RELAX;
 use texml_scope::{Key, Meaning};
 use texml_watch::Teller;
@@ -127,6 +128,6 @@ fn short_meaning(what: ShortFor, number: u32) -> Meaning
 {
     match what {
         ShortFor::Character => Meaning::Number(number),
-        ShortFor::Register(variable) => Meaning::Quantity(key_of(variable, number)),
+        ShortFor::Register(registers) => Meaning::Quantity(register_key(registers, number as u16)),
     }
 }

@@ -1,13 +1,10 @@
 //! What can be executed: prefixes and commands.
 
 ghost use Rattle.std.specs.Prelude.{◌≡◌};
-ghost use Rattle.texml_assign.specs.declared.table.Executable.TheVariants.{Command};
-ghost use Rattle.texml_assign.specs.declared.table.Command.TheVariants.{Short};
-ghost use Rattle.texml_assign.specs.declared.table.ShortFor.TheVariants.{Register};
 ghost use Rattle.texml_assign.specs.Table.{executable_at, is_definition, is_assignment, with_prefix, may_follow};
 
-use crate::targets::Target;
-use texml_expand::{Variable, variable_at};
+use crate::targets::{Registers, Target};
+use texml_expand::variable_at;
 use texml_scope::builtins::{
     ADVANCE, AFTERASSIGNMENT, AFTERGROUP, BEGINGROUP, CHARDEF, COUNTDEF, DEF, DIMENDEF, DIVIDE,
     ENDGROUP, GDEF, GLOBAL, LET, LONG, MULTIPLY, NEWCOMMAND, OUTER, PROVIDECOMMAND, RELAX,
@@ -34,7 +31,7 @@ pub enum Naming {
 #[derive(Clone, Copy, Debug, PartialEq, Eq)]
 pub enum ShortFor {
     Character,
-    Register(Variable),
+    Register(Registers),
 }
 
 /// What is done with a value that is counted with.
@@ -106,10 +103,10 @@ pub fn executable_at(place: u16) -> Option<Executable>
         RENEWCOMMAND => Some(Executable::Command(Command::NewCommand(Naming::Renew))),
         PROVIDECOMMAND => Some(Executable::Command(Command::NewCommand(Naming::Provide))),
         CHARDEF => Some(Executable::Command(Command::Short(ShortFor::Character))),
-        COUNTDEF => Some(short(Variable::Count)),
-        DIMENDEF => Some(short(Variable::Dimen)),
-        SKIPDEF => Some(short(Variable::Skip)),
-        TOKSDEF => Some(short(Variable::Toks)),
+        COUNTDEF => Some(short(Registers::Count)),
+        DIMENDEF => Some(short(Registers::Dimen)),
+        SKIPDEF => Some(short(Registers::Skip)),
+        TOKSDEF => Some(short(Registers::Toks)),
         ADVANCE => Some(Executable::Command(Command::Arithmetic(Arithmetic::Advance))),
         MULTIPLY => Some(Executable::Command(Command::Arithmetic(Arithmetic::Multiply))),
         DIVIDE => Some(Executable::Command(Command::Arithmetic(Arithmetic::Divide))),
@@ -121,10 +118,10 @@ pub fn executable_at(place: u16) -> Option<Executable>
 }
 
 // The command that names registers of a kind.
-fn short(variable: Variable) -> Executable
-    ensures { result ≡ Command (Short (Register variable)) }
+fn short(registers: Registers) -> Executable
+    ensures { result ≡ Executable.Command (Command.Short (ShortFor.Register registers)) }
 {
-    Executable::Command(Command::Short(ShortFor::Register(variable)))
+    Executable::Command(Command::Short(ShortFor::Register(registers)))
 }
 
 /// Whether a command is a definition.

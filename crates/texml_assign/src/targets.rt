@@ -4,23 +4,45 @@ ghost use Rattle.std.specs.Prelude.{◌≡◌, ◌≤◌, length, None, IfOk, If
 ghost use Rattle.texml_scope.specs.Shown.{KeyCode};
 ghost use Rattle.texml_scope.specs.Numbers.{key_at, meaning_at, KeyWithin};
 ghost use Rattle.texml_token.specs.Numbers.{Table};
+ghost use Rattle.texml_expand.specs.VariableCodes.{key_by};
 ghost use Rattle.texml_expand.specs.Contract.{outside};
 ghost use Rattle.texml_expand.specs.Hearing.{hears, hears_part};
 ghost use Rattle.texml_expand.specs.Held.{state_of, Sound, ok_at};
 ghost use Rattle.texml_assign.specs.Doing.{Does};
-ghost use Rattle.texml_assign.specs.Targets.{register_of as spec_register_of, target_of as spec_target_of, variable_of as spec_variable_of, target_key as spec_target_key, is_counted, is_list as spec_is_list};
-ghost use Rattle.texml_assign.specs.TargetCodes.{IsPlaced, IsKeyOf};
+ghost use Rattle.texml_assign.specs.Targets.{variable_in, register_of as spec_register_of, target_of as spec_target_of, variable_of as spec_variable_of, target_key as spec_target_key, is_counted, is_list as spec_is_list};
+ghost use Rattle.texml_assign.specs.TargetCodes.{IsKeyOf};
 
 use texml_base::Files;
-use texml_expand::{Engine, Stop, Variable, index_of, key_of, variable_at};
+use texml_expand::{Engine, Stop, Variable, variable_at};
 use texml_scope::{Key, Meaning};
 use texml_watch::Teller;
+
+/// Registers of a kind.
+#[derive(Clone, Copy, Debug, PartialEq, Eq)]
+pub enum Registers {
+    Count,
+    Dimen,
+    Skip,
+    Toks,
+}
 
 /// What a value is assigned to: a variable, whose index is read, or a register that has a name.
 #[derive(Clone, Copy, Debug, PartialEq, Eq)]
 pub enum Target {
     Behind(Variable),
-    Named(Variable, u16),
+    Named(Registers, u16),
+}
+
+/// The register of this number.
+pub fn register_key(registers: Registers, number: u16) -> Key
+    ensures { result ≡ key_by (variable_in registers) number }
+{
+    match registers {
+        Registers::Count => Key::Count(number),
+        Registers::Dimen => Key::Dimen(number),
+        Registers::Skip => Key::Skip(number),
+        Registers::Toks => Key::Toks(number),
+    }
 }
 
 /// The register that a name stands for.
@@ -28,10 +50,10 @@ pub fn register_of(key: Key) -> Option<Target>
     ensures { (texts : Table) → result ≡ spec_register_of (key_at texts key) }
 {
     match key {
-        Key::Count(number) => Some(Target::Named(Variable::Count, number)),
-        Key::Dimen(number) => Some(Target::Named(Variable::Dimen, number)),
-        Key::Skip(number) => Some(Target::Named(Variable::Skip, number)),
-        Key::Toks(number) => Some(Target::Named(Variable::Toks, number)),
+        Key::Count(number) => Some(Target::Named(Registers::Count, number)),
+        Key::Dimen(number) => Some(Target::Named(Registers::Dimen, number)),
+        Key::Skip(number) => Some(Target::Named(Registers::Skip, number)),
+        Key::Toks(number) => Some(Target::Named(Registers::Toks, number)),
         _ => None,
     }
 }
@@ -56,7 +78,10 @@ pub fn variable_of(target: Target) -> Variable
 {
     match target {
         Target::Behind(variable) => variable,
-        Target::Named(variable, _) => variable,
+        Target::Named(Registers::Count, _) => Variable::Count,
+        Target::Named(Registers::Dimen, _) => Variable::Dimen,
+        Target::Named(Registers::Skip, _) => Variable::Skip,
+        Target::Named(Registers::Toks, _) => Variable::Toks,
     }
 }
 
@@ -102,9 +127,9 @@ pub fn target_key<F: Files, T: Teller>(
 {
     match target {
         Target::Behind(variable) => {
-            let number = engine.read_index(files, tell, index_of(variable))?;
-            Ok(key_of(variable, number))
+            let key = engine.read_variable(files, tell, variable)?;
+            Ok(key)
         }
-        Target::Named(variable, number) => Ok(key_of(variable, u32::from(number))),
+        Target::Named(registers, number) => Ok(register_key(registers, number)),
     }
 }

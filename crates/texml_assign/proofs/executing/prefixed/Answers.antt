@@ -55,8 +55,8 @@ pub rounds-smaller : goal.rounds-smaller
 rounds-smaller g c =
     let i = c.tokens.invariant in let run = i.going.running in
     let l = rw c.in-Some.is at (c.in_ok-token.ensures.lower run) in
-    let w = l.within i.going.kept.sound.budget in
     let ne = c.if-begun.true in let is = c.begun.ensures in let begun = i.begun in let same = i.same in let limit = i.limit in let low = l.begun in let lim = l.limit in
+    let w = l.within (omega (arith, ne)) in
     omega (arith, ne)
 
 pub tokens-smaller : goal.tokens-smaller
