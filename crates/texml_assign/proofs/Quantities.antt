@@ -1,7 +1,7 @@
 -- Readings of quantities, and the commands that assign them: each has one answer, and leaves no more to be read.
-use Rattle.std.proofs.Common.{◌≡◌, ◌+◌, ◌≤◌, ℕ, ℤ, pos, negsuc, zero, suc, Bool, true, false, nat_le, if◌then◌else◌, List, [], Option, Some, None, Result, Ok, Err, refl, sym, ap, ◌∙◌, arith, codes}
+use Rattle.std.proofs.Common.{◌≡◌, ◌+◌, ◌≤◌, ◌<◌, ◌^◌, ℕ, ℤ, pos, negsuc, zero, suc, Bool, true, false, nat_le, if◌then◌else◌, List, [], Option, Some, None, Result, Ok, Err, refl, sym, ap, ◌∙◌, arith, codes}
 use Rattle.std.specs.Option.{option_map}
-use lib.Utf8.{scalar}
+use Rattle.std.specs.Char.{IsScalar}
 use Rattle.texml_token.specs.Token.{Token}
 use Rattle.texml_token.specs.declared.category.TheConstants.{INVALID}
 use Rattle.texml_token.specs.declared.fault_code.TheConstants.{BAD_CODE, MISPLACED, OVERFLOW, MISSING_BRACE, FILE_ENDED}
@@ -56,7 +56,7 @@ use Rattle.texml_assign.specs.Targets.{variable_in, target_of, target_key, varia
 use Rattle.texml_assign.specs.Fillers.{fills, filler_turn, filler_loop, first_behind, past_equals, optional_equals}
 use Rattle.texml_assign.specs.Operands.{is_equals, next_key}
 use Rattle.texml_assign.specs.Sets.{set, assign}
-use Rattle.texml_assign.specs.Assignments.{next_number, next_category, next_code, next_dimension, next_glue, register_list, list_of, list_start, value_now, absorbed_list, copied_list, list_from, list_by, next_list, value_for, assign_next, assign_to, assignment}
+use Rattle.texml_assign.specs.Assignments.{next_number, category_of, next_category, next_code, next_dimension, next_glue, register_list, list_of, list_start, value_now, absorbed_list, copied_list, list_from, list_by, next_list, value_for, assign_next, assign_to, assignment}
 use Rattle.texml_assign.specs.ShortNames.{short_index, short_meaning, short_number, short_equals, short_key, short_name}
 use Rattle.texml_assign.specs.Arithmetic.{counted, counted_by, counted_of, next_counted, count_of, count_now, product, quotient, fits, advanced, by_number, computed, value_from, count_on, count_with, count_by, count_target, arithmetic}
 use Rattle.texml_assign.proofs.Readings.{IsUnlimited, Lawful, Sure, Plain, chained, lawful_calls, lawful_plain, lawful_then, lawful_by, plain_by, plain_give, plain_fail, plain_change, plain_if, plain_then, sure}
@@ -181,8 +181,20 @@ lawful_equals = record {
 
 -- Numbers, dimensions and glue
 
+abbrev pub number_value : ℤ → Reading Value
+number_value z = give (values.Number z)
+
+abbrev pub code_value : ℕ → Reading Value
+code_value c = give (values.Number (pos c))
+
+abbrev pub dimension_value : Scaled → Reading Value
+dimension_value d = give (values.Number d.0)
+
+abbrev pub glue_value : GlueValue → Reading Value
+glue_value g = give (values.Glue g)
+
 pub lawful_next_number : Lawful next_number
-lawful_next_number = lawful_then read_int (λ z n. give (values.Number z)) lawful_int (λ z. lawful_plain (give _) (plain_give _))
+lawful_next_number = lawful_then read_int (λ z n. number_value z) lawful_int (λ z. lawful_plain (number_value z) (plain_give _))
 
 among_if : (b : Bool) (n : ℕ) → Plain (if b then give n else fail BAD_CODE [])
 among_if b n = plain_if b (give n) (fail BAD_CODE []) (plain_give n) (plain_fail _ _ _)
@@ -191,9 +203,6 @@ plain_among : (fits : ℕ → Bool) (z : ℤ) → Plain (among fits z)
 plain_among fits (pos n) = among_if (fits n) n
 plain_among fits (negsuc n) = plain_fail _ _ _
 
-abbrev pub category_of : ℤ → Reading Value
-category_of z s = chain (among (λ k. nat_le k INVALID) z s) (λ c. give (values.Number (pos c)))
-
 pub plain_category : (z : ℤ) → Plain (category_of z)
 plain_category z = plain_then (among (λ k. nat_le k INVALID) z) (λ c. give (values.Number (pos c))) (plain_among (λ k. nat_le k INVALID) z) (λ c. plain_give _)
 
@@ -201,13 +210,13 @@ pub lawful_next_category : Lawful next_category
 lawful_next_category = lawful_then read_int (λ z n. category_of z) lawful_int (λ z. lawful_plain (category_of z) (plain_category z))
 
 pub lawful_next_code : Lawful next_code
-lawful_next_code = lawful_then (read_index index.Character) (λ c n. give (values.Number (pos c))) (lawful_index_of index.Character) (λ c. lawful_plain (give _) (plain_give _))
+lawful_next_code = lawful_then (read_index index.Character) (λ c n. code_value c) (lawful_index_of index.Character) (λ c. lawful_plain (code_value c) (plain_give _))
 
 pub lawful_next_dimension : Lawful next_dimension
-lawful_next_dimension = lawful_then read_dimen (λ d n. give (values.Number d.0)) lawful_dimen (λ d. lawful_plain (give _) (plain_give _))
+lawful_next_dimension = lawful_then read_dimen (λ d n. dimension_value d) lawful_dimen (λ d. lawful_plain (dimension_value d) (plain_give _))
 
 pub lawful_next_glue : Lawful next_glue
-lawful_next_glue = lawful_then read_glue (λ g n. give (values.Glue g)) lawful_glue (λ g. lawful_plain (give _) (plain_give _))
+lawful_next_glue = lawful_then read_glue (λ g n. glue_value g) lawful_glue (λ g. lawful_plain (glue_value g) (plain_give _))
 
 -- Lists
 
@@ -364,3 +373,7 @@ same_key k v t u = ap (key_at t) v.is.is ∙ variable_same v.variable v.is.numbe
 
 pub counted_variable : (k : KeyCode) → IsCounted k → IsVariable k
 counted_variable k c = record { variable = c.variable; is = c.is }
+
+-- the code of a character is small
+pub scalar_low : (n : ℕ) → IsScalar n → n < 2 ^ 31
+scalar_low n h = grind (arith, h)

@@ -27,12 +27,16 @@ next_number n = do
   z ← read_int n
   give (values.Number z)
 
--- a number from 0 to 15
+-- a number from 0 to 15, or else fault 11
+abbrev pub category_of : ℤ → Reading Value
+category_of z = do
+  c ← among (λ k. nat_le k INVALID) z
+  give (values.Number (pos c))
+
 abbrev pub next_category : ByDepth Value
 next_category n = do
   z ← read_int n
-  c ← among (λ k. nat_le k INVALID) z
-  give (values.Number (pos c))
+  category_of z
 
 -- the number of a character
 abbrev pub next_code : ByDepth Value

@@ -13,7 +13,7 @@ ghost use Rattle.texml_expand.specs.Held.{state_of, Sound, Kept, ok_at};
 ghost use Rattle.texml_assign.specs.Doing.{Does};
 ghost use Rattle.texml_assign.specs.Targets.{variable_of as spec_variable_of, is_list as is_list_variable};
 ghost use Rattle.texml_assign.specs.TargetCodes.{IsVariable, StartsList, start_or_fault};
-ghost use Rattle.texml_assign.specs.Assignments.{next_number as spec_next_number, next_category as spec_next_category, next_code as spec_next_code, next_dimension as spec_next_dimension, next_glue as spec_next_glue, list_of as spec_list_of, list_start as spec_list_start, absorbed_list as spec_absorbed_list, copied_list as spec_copied_list, list_from as spec_list_from, list_by as spec_list_by, next_list as spec_next_list, value_for as spec_value_for, assign_next as spec_assign_next, assign_to as spec_assign_to, assignment as spec_assignment};
+ghost use Rattle.texml_assign.specs.Assignments.{next_number as spec_next_number, category_of as spec_category_of, next_category as spec_next_category, next_code as spec_next_code, next_dimension as spec_next_dimension, next_glue as spec_next_glue, list_of as spec_list_of, list_start as spec_list_start, absorbed_list as spec_absorbed_list, copied_list as spec_copied_list, list_from as spec_list_from, list_by as spec_list_by, next_list as spec_next_list, value_for as spec_value_for, assign_next as spec_assign_next, assign_to as spec_assign_to, assignment as spec_assignment};
 
 use crate::fillers::{Filler, first_behind, optional_equals};
 use crate::sets::set;
@@ -149,10 +149,23 @@ fn next_category<F: Files, T: Teller>(
     ensures files { files.new ≡ files.old }
 {
     let number = engine.read_int(files, tell)?;
-    if number < 0 || number > i32::from(category::INVALID) {
-        return Err(engine.bare_fault(fault_code::BAD_CODE));
+    category_of(engine, number)
+}
+
+// The category of a number.
+fn category_of(engine: &mut Engine, number: i32) -> Result<Value, Stop>
+    requires running { engine.old.stop ≡ None }
+    requires sound { Sound engine.old }
+    ensures is { Silent (spec_category_of number (state_of engine.old)) (ok_at (value_at engine.old.names) result) (state_of engine.new) }
+    ensures kept { engine.new.stop ≡ stop_after result }
+    ensures same { engine.new ≡ record engine.old { stop = engine.new.stop } }
+    ensures keeps { OnOk result (Kept engine.old engine.new) }
+    ensures kind { IfOk result (IsNumber IsCategory) }
+{
+    match u32::try_from(number) {
+        Ok(code) if code <= u32::from(category::INVALID) => Ok(Value::Number(number)),
+        _ => Err(engine.bare_fault(fault_code::BAD_CODE)),
     }
-    Ok(Value::Number(number))
 }
 
 // The number of a character that comes next.
