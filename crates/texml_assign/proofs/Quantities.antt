@@ -56,7 +56,7 @@ use Rattle.texml_assign.specs.Targets.{variable_in, target_of, target_key, varia
 use Rattle.texml_assign.specs.Fillers.{fills, filler_turn, filler_loop, first_behind, past_equals, optional_equals}
 use Rattle.texml_assign.specs.Operands.{is_equals, next_key}
 use Rattle.texml_assign.specs.Sets.{set, assign}
-use Rattle.texml_assign.specs.Assignments.{next_number, category_of, next_category, next_code, next_dimension, next_glue, register_list, list_of, list_start, value_now, absorbed_list, copied_list, list_from, list_by, next_list, value_for, assign_next, assign_to, assignment}
+use Rattle.texml_assign.specs.Assignments.{next_number, category_of, next_category, next_code, next_dimension, next_glue, begins_list, needed_start, list_start, value_now, absorbed_list, copied_list, list_from, list_by, next_list, value_for, assign_next, assign_to, assignment}
 use Rattle.texml_assign.specs.ShortNames.{short_index, short_meaning, short_number, short_equals, short_key, short_name}
 use Rattle.texml_assign.specs.Arithmetic.{counted, counted_by, counted_of, next_counted, count_of, count_now, product, quotient, fits, advanced, by_number, computed, value_from, count_on, count_with, count_by, count_target, arithmetic}
 use Rattle.texml_assign.proofs.Readings.{IsUnlimited, Lawful, Sure, Plain, chained, lawful_calls, lawful_plain, lawful_then, lawful_by, plain_by, plain_give, plain_fail, plain_change, plain_if, plain_then, sure}
@@ -220,23 +220,22 @@ lawful_next_glue = lawful_then read_glue (λ g n. glue_value g) lawful_glue (λ 
 
 -- Lists
 
-plain_register : (o : Option Target) → Plain (register_list o)
-plain_register None = plain_fail _ _ _
-plain_register (Some t) = plain_if (is_list (variable_of t)) (give (Register t)) (fail MISSING_BRACE []) (plain_give _) (plain_fail _ _ _)
-
-plain_list_of : (m : Meaning) → Plain (list_of m)
-plain_list_of (meanings.Char c category) = plain_if _ (give Group) (fail MISSING_BRACE []) (plain_give _) (plain_fail _ _ _)
-plain_list_of m = plain_register (target_of m)
+plain_needed_start : (o : Option ListStart) → Plain (needed_start o)
+plain_needed_start None = plain_fail _ _ _
+plain_needed_start (Some start) = plain_give start
 
 pub plain_list_start : (o : Option Looked) → Plain (list_start o)
 plain_list_start None = plain_fail _ _ _
-plain_list_start (Some x) = plain_by (λ s. means s.world x.counts) list_of plain_list_of
+plain_list_start (Some x) = plain_by (λ s. begins_list (means s.world x.counts)) needed_start plain_needed_start
 
 pub plain_value_now : (k : Key) → Plain (value_now k)
 plain_value_now k = plain_by (λ s. s.world.top k) give plain_give
 
+abbrev pub list_value : List Token → Reading Value
+list_value list = give (values.List list)
+
 pub plain_absorbed_list : Plain absorbed_list
-plain_absorbed_list = plain_then absorb (λ list. give (values.List list)) plain_absorb (λ list. plain_give _)
+plain_absorbed_list = plain_then absorb list_value plain_absorb (λ list. plain_give _)
 
 pub lawful_copied_list : (t : Target) → Lawful (copied_list t)
 lawful_copied_list t = lawful_then (target_key t) (λ k n. value_now k) (lawful_target t) (λ k. lawful_plain (value_now k) (plain_value_now k))

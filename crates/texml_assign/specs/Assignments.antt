@@ -56,17 +56,21 @@ next_glue n = do
 
 -- Lists of tokens: a brace begins one, or it is that of a register
 
-abbrev pub register_list : Option Target → Reading ListStart
-register_list None = fail MISSING_BRACE []
-register_list (Some target) = if is_list (variable_of target) then give (Register target) else fail MISSING_BRACE []
+abbrev pub register_list : Option Target → Option ListStart
+register_list None = None
+register_list (Some target) = if is_list (variable_of target) then Some (Register target) else None
 
-abbrev pub list_of : Meaning → Reading ListStart
-list_of (CharMeaning c category) = if category == BEGIN_GROUP then give Group else fail MISSING_BRACE []
-list_of m = register_list (target_of m)
+abbrev pub begins_list : Meaning → Option ListStart
+begins_list (CharMeaning c category) = if category == BEGIN_GROUP then Some Group else None
+begins_list m = register_list (target_of m)
+
+abbrev pub needed_start : Option ListStart → Reading ListStart
+needed_start None = fail MISSING_BRACE []
+needed_start (Some start) = give start
 
 abbrev pub list_start : Option Looked → Reading ListStart
 list_start None s = fail FILE_ENDED [] s
-list_start (Some x) s = list_of (means s.world x.counts) s
+list_start (Some x) s = needed_start (begins_list (means s.world x.counts)) s
 
 abbrev pub value_now : Key → Reading Value
 value_now k s = give (s.world.top k) s

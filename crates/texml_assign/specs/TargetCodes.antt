@@ -1,14 +1,12 @@
 -- Only private contracts need these: the keys of the code that are assigned to, and the values that may take a place.
-use Rattle.std.specs.Prelude.{◌≡◌, ℕ, true}
+use Rattle.std.specs.Prelude.{◌≡◌, ℕ, ℤ, true}
+use Rattle.texml_scope.specs.declared.values.KeyOf.TheVariants as keys
 use Rattle.texml_scope.specs.Shown.{KeyCode}
 use Rattle.texml_scope.specs.World.{MaySet}
 use Rattle.texml_fixed.specs.Arithmetic.{IsWithin}
 use Rattle.texml_fixed.specs.Glue.{IsGlueWithin}
 use Rattle.texml_expand.specs.declared.variables.Variable.{Variable}
 use Rattle.texml_expand.specs.VariableCodes.{key_by}
-use Rattle.texml_expand.specs.State.{Reading, give, fail}
-use Rattle.texml_token.specs.declared.fault_code.TheConstants.{MISSING_BRACE}
-use Rattle.std.specs.Prelude.{Option, None, Some, []}
 use Rattle.texml_assign.specs.declared.arithmetic.Counted.{Counted}
 use Rattle.texml_assign.specs.declared.arithmetic.Counted.TheVariants.{Number, Dimension, Glue}
 use Rattle.texml_assign.specs.declared.assignments.ListStart.{ListStart}
@@ -54,6 +52,7 @@ abbrev pub StartsList : ListStart → Type 0
 StartsList Group = Unit {0}
 StartsList (Register target) = is_list (variable_of target) ≡ true
 
-abbrev pub start_or_fault : Option ListStart → Reading ListStart
-start_or_fault None = fail MISSING_BRACE []
-start_or_fault (Some start) = give start
+-- what the number of a key is counted as
+abbrev pub number_by : KeyCode → ℤ → Counted
+number_by (keys.Dimen r) z = Dimension (record { 0 = z })
+number_by k z = Number z

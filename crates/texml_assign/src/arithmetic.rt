@@ -8,8 +8,8 @@ ghost use Rattle.texml_expand.specs.Hearing.{hears, hears_part};
 ghost use Rattle.texml_expand.specs.Held.{state_of, Sound, Kept, ok_at};
 ghost use Rattle.texml_assign.specs.Doing.{Does};
 ghost use Rattle.texml_assign.specs.Targets.{variable_of as spec_variable_of, is_counted as spec_is_counted};
-ghost use Rattle.texml_assign.specs.TargetCodes.{IsCounted, IsCountWithin, IsLike, Suits};
-ghost use Rattle.texml_assign.specs.Arithmetic.{next_counted as spec_next_counted, counted_by as spec_counted_by, counted_of as spec_counted_of, count_now as spec_count_now, as_number as spec_as_number, as_dimension as spec_as_dimension, as_glue as spec_as_glue, product as spec_product, quotient as spec_quotient, fits as spec_fits, advanced as spec_advanced, computed as spec_computed, value_from as spec_value_from, count_on as spec_count_on, count_with as spec_count_with, count_by as spec_count_by, count_target as spec_count_target, arithmetic as spec_arithmetic};
+ghost use Rattle.texml_assign.specs.TargetCodes.{IsCounted, IsCountWithin, IsLike, Suits, number_by};
+ghost use Rattle.texml_assign.specs.Arithmetic.{next_counted as spec_next_counted, counted as spec_counted, counted_by as spec_counted_by, counted_of as spec_counted_of, count_now as spec_count_now, as_number as spec_as_number, as_dimension as spec_as_dimension, as_glue as spec_as_glue, product as spec_product, quotient as spec_quotient, fits as spec_fits, advanced as spec_advanced, computed as spec_computed, value_from as spec_value_from, count_on as spec_count_on, count_with as spec_count_with, count_by as spec_count_by, count_target as spec_count_target, arithmetic as spec_arithmetic};
 
 use crate::sets::set;
 use crate::table::Arithmetic;
@@ -189,10 +189,26 @@ fn counted_by(engine: &mut Engine, token: Token) -> Result<Target, Stop>
         Ok(meaning) => meaning,
         Err(_) => return Err(engine.no_memory()),
     };
-    match target_of(&meaning) {
-        Some(target) if is_counted(variable_of(target)) => Ok(target),
-        _ => Err(engine.bare_fault(fault_code::MISPLACED)),
+    countable(engine, target_of(&meaning))
+}
+
+// What is counted with, which must be a variable that can be.
+fn countable(engine: &mut Engine, target: Option<Target>) -> Result<Target, Stop>
+    requires running { engine.old.stop ≡ None }
+    requires sound { Sound engine.old }
+    ensures is { Silent (spec_counted target (state_of engine.old)) result (state_of engine.new) }
+    ensures kept { engine.new.stop ≡ stop_after result }
+    ensures same { engine.new ≡ record engine.old { stop = engine.new.stop } }
+    ensures keeps { OnOk result (Kept engine.old engine.new) }
+    ensures counted { IfOk result (λ target. spec_is_counted (spec_variable_of target) ≡ true) }
+{
+    let Some(target) = target else {
+        return Err(engine.bare_fault(fault_code::MISPLACED));
+    };
+    if !is_counted(variable_of(target)) {
+        return Err(engine.bare_fault(fault_code::MISPLACED));
     }
+    Ok(target)
 }
 
 // The value of a variable that can be counted with.
@@ -211,11 +227,20 @@ fn count_now(engine: &mut Engine, key: Key) -> Result<Counted, Stop>
         Ok(value) => value,
         Err(_) => return Err(engine.no_memory()),
     };
-    match (key, value) {
-        (Key::Dimen(_), Value::Number(value)) => Ok(Counted::Dimension(Scaled(value))),
-        (_, Value::Number(value)) => Ok(Counted::Number(value)),
-        (_, Value::Glue(value)) => Ok(Counted::Glue(value)),
+    match value {
+        Value::Number(number) => Ok(counted_number(key, number)),
+        Value::Glue(glue) => Ok(Counted::Glue(glue)),
         _ => unreachable!(),
+    }
+}
+
+// What the number of a key is counted as.
+fn counted_number(key: Key, number: i32) -> Counted
+    ensures { result ≡ number_by key number }
+{
+    match key {
+        Key::Dimen(_) => Counted::Dimension(Scaled(number)),
+        _ => Counted::Number(number),
     }
 }
 

@@ -1,19 +1,19 @@
 //! Assignments to variables.
 
-ghost use Rattle.std.specs.Prelude.{◌≡◌, length, None, true, IfOk, IfSome, OnOk, option_map};
+ghost use Rattle.std.specs.Prelude.{◌≡◌, ◌==◌, if◌then◌else◌, length, None, Some, true, IfOk, IfSome, OnOk, option_map};
+ghost use Rattle.texml_token.specs.declared.category.TheConstants.{BEGIN_GROUP};
 ghost use Rattle.texml_token.specs.Numbers.{Table, OptionWithin};
 ghost use Rattle.texml_scope.specs.Numbers.{key_at, value_at, meaning_at, KeyWithin, ValueWithin};
 ghost use Rattle.texml_fixed.specs.Arithmetic.{IsWithin};
 ghost use Rattle.texml_scope.specs.World.{MaySet, IsNumber, IsCategory, IsCode, IsGlue, IsList};
-ghost use Rattle.texml_expand.specs.State.{State};
 ghost use Rattle.texml_expand.specs.Contract.{Silent, outside, stop_after};
 ghost use Rattle.texml_expand.specs.Fronts.{looked_at, LookedWithin};
 ghost use Rattle.texml_expand.specs.Hearing.{hears, hears_part};
 ghost use Rattle.texml_expand.specs.Held.{state_of, Sound, Kept, ok_at};
 ghost use Rattle.texml_assign.specs.Doing.{Does};
 ghost use Rattle.texml_assign.specs.Targets.{variable_of as spec_variable_of, is_list as is_list_variable};
-ghost use Rattle.texml_assign.specs.TargetCodes.{IsVariable, StartsList, start_or_fault};
-ghost use Rattle.texml_assign.specs.Assignments.{next_number as spec_next_number, category_of as spec_category_of, next_category as spec_next_category, next_code as spec_next_code, next_dimension as spec_next_dimension, next_glue as spec_next_glue, list_of as spec_list_of, list_start as spec_list_start, absorbed_list as spec_absorbed_list, copied_list as spec_copied_list, list_from as spec_list_from, list_by as spec_list_by, next_list as spec_next_list, value_for as spec_value_for, assign_next as spec_assign_next, assign_to as spec_assign_to, assignment as spec_assignment};
+ghost use Rattle.texml_assign.specs.TargetCodes.{IsVariable, StartsList};
+ghost use Rattle.texml_assign.specs.Assignments.{next_number as spec_next_number, category_of as spec_category_of, next_category as spec_next_category, next_code as spec_next_code, next_dimension as spec_next_dimension, next_glue as spec_next_glue, register_list as spec_register_list, begins_list as spec_begins_list, list_start as spec_list_start, absorbed_list as spec_absorbed_list, copied_list as spec_copied_list, list_from as spec_list_from, list_by as spec_list_by, next_list as spec_next_list, value_for as spec_value_for, assign_next as spec_assign_next, assign_to as spec_assign_to, assignment as spec_assignment};
 
 use crate::fillers::{Filler, first_behind, optional_equals};
 use crate::sets::set;
@@ -271,26 +271,53 @@ fn list_start(engine: &mut Engine, first: Option<Looked>) -> Result<ListStart, S
     let Some(looked) = first else {
         return Err(engine.bare_fault(fault_code::FILE_ENDED));
     };
-    match engine.means(looked.counts) {
-        Ok(meaning) => match list_of(&meaning) {
-            Some(start) => Ok(start),
-            None => Err(engine.bare_fault(fault_code::MISSING_BRACE)),
-        },
-        Err(_) => Err(engine.no_memory()),
+    let meaning = match engine.means(looked.counts) {
+        Ok(meaning) => meaning,
+        Err(_) => return Err(engine.no_memory()),
+    };
+    match begins_list(&meaning) {
+        Some(start) => Ok(start),
+        None => Err(engine.bare_fault(fault_code::MISSING_BRACE)),
     }
 }
 
 // Where a list comes from, by a meaning, if it begins one.
-fn list_of(meaning: &Meaning) -> Option<ListStart>
-    ensures is { (texts : Table) → (s : State) → spec_list_of (meaning_at texts meaning.now) s ≡ start_or_fault result s }
+fn begins_list(meaning: &Meaning) -> Option<ListStart>
+    ensures is { (texts : Table) → result ≡ spec_begins_list (meaning_at texts meaning.now) }
     ensures list { IfSome result StartsList }
 {
-    if let Meaning::Char(_, category) = meaning {
-        return (*category == category::BEGIN_GROUP).then_some(ListStart::Group);
+    match meaning {
+        Meaning::Char(_, category) => group_list(*category),
+        Meaning::Builtin(_) => register_list(target_of(meaning)),
+        Meaning::Quantity(_) => register_list(target_of(meaning)),
+        Meaning::Undefined | Meaning::Macro(_) | Meaning::Number(_) | Meaning::Constructor(_) => {
+            None
+        }
     }
-    match target_of(meaning) {
-        Some(target) if is_list(variable_of(target)) => Some(ListStart::Register(target)),
-        _ => None,
+}
+
+// Where a list comes from, by the category of a character.
+fn group_list(category: u8) -> Option<ListStart>
+    ensures is { result ≡ (if category == BEGIN_GROUP then Some ListStart.Group else None) }
+    ensures list { IfSome result StartsList }
+{
+    if category == category::BEGIN_GROUP {
+        Some(ListStart::Group)
+    } else {
+        None
+    }
+}
+
+// Where a list comes from, by what is assigned to, if that is a list.
+fn register_list(target: Option<Target>) -> Option<ListStart>
+    ensures is { result ≡ spec_register_list target }
+    ensures list { IfSome result StartsList }
+{
+    let target = target?;
+    if is_list(variable_of(target)) {
+        Some(ListStart::Register(target))
+    } else {
+        None
     }
 }
 
