@@ -9,7 +9,7 @@ use Rattle.texml_scope.specs.declared.values.MeaningOf.TheVariants as meanings
 use Rattle.texml_scan.specs.declared.looks.Look.{Look}
 use Rattle.texml_scan.specs.declared.looks.Look.TheVariants.{End}
 use Rattle.texml_scan.specs.declared.looks.Held.TheVariants as held
-use Rattle.texml_scan.specs.Grammar.{Want, Expanded, Raw, Asked, Verdict, Wanting, Decided, Faulty, Remainder}
+use Rattle.texml_scan.specs.Grammar.{Expanded, Raw, Asked, Verdict, Wanting, Decided, Faulty, Remainder}
 use Rattle.texml_scan.specs.Looked.{look_of}
 use Rattle.texml_expand.specs.declared.variables.Variable.{Variable}
 use Rattle.texml_expand.specs.declared.variables.Index.{Index}
@@ -20,7 +20,7 @@ use Rattle.texml_expand.specs.State.{State, room, nothing, Answer, Done, Ended, 
 use Rattle.texml_expand.specs.Take.{take, put, means}
 use Rattle.texml_expand.specs.Variables.{variable_at, index_of, key_of, among, a_character, a_register, Internal, Number, internal_in, value_of}
 use Rattle.texml_expand.specs.Calls.{Seen, looks, Calls}
-use Rattle.texml_expand.specs.Quantities.{int_text, Looked, looked_at, as_it_counts, as_itself, expanded, unexpanded, next_wanted, read_index, read_key, internal_of, internal, held_of, look_by, look, put_last, needed, shown, internal_now, the}
+use Rattle.texml_expand.specs.Quantities.{int_text, Looked, looked_at, as_it_counts, as_itself, expanded, unexpanded, next_looked, read_index, read_key, internal_of, internal, held_of, look_by, look, put_last, needed, shown, internal_now, the}
 use Rattle.texml_expand.specs.Contract.{Lower}
 use Rattle.texml_expand.proofs.Items.{size_put}
 use Rattle.texml_expand.proofs.Leading.{Leads, leads_chain, leads_weaker, count, lower_none, lower_then, lower_less, take_leads}
@@ -57,15 +57,13 @@ raw_token c = unexpanded
 lawful_unexpanded : Lawful raw_token
 lawful_unexpanded = lawful_silent unexpanded unexpanded_decided (λ s. leads_weaker (λ o t. Lower (count o) s t) (λ o t. Lower 0 s t) (unexpanded s) (λ o t. lower_less (count o) s t) (unexpanded_leads s))
 
-pub lawful_wanted : (w : Want) → Lawful (λ c. next_wanted c w)
-lawful_wanted Raw = lawful_unexpanded
-lawful_wanted Expanded = lawful_expanded
-lawful_wanted Asked = lawful_expanded
+pub lawful_looked : (raw : Bool) → Lawful (λ c. next_looked c raw)
+lawful_looked true = lawful_unexpanded
+lawful_looked false = lawful_expanded
 
-pub wanted_leads : (c : Calls) → CallsFall c → (w : Want) (s : State) → Leads (λ o t. Lower (count o) s t) (next_wanted c w s)
-wanted_leads c f Raw s = unexpanded_leads s
-wanted_leads c f Expanded s = expanded_leads c f s
-wanted_leads c f Asked s = expanded_leads c f s
+pub looked_leads : (c : Calls) → CallsFall c → (raw : Bool) (s : State) → Leads (λ o t. Lower (count o) s t) (next_looked c raw s)
+looked_leads c f true s = unexpanded_leads s
+looked_leads c f false s = expanded_leads c f s
 
 -- Internal quantities
 
