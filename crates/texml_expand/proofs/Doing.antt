@@ -4,14 +4,14 @@ use Rattle.std.specs.Result.{OnOk}
 use Rattle.texml_watch.specs.declared.record.Record.{Record}
 use Rattle.texml_expand.specs.declared.stop.Stop.{Stop}
 use Rattle.texml_expand.specs.declared.stop.Stop.TheVariants as stop
-use Rattle.texml_expand.specs.State.{State, nothing, Tex, Answer, Done, Ended, Reading, chain, fault_at}
+use Rattle.texml_expand.specs.State.{State, nothing, Tex, Answer, Done, Ended, Reading, chain, give, fault_at}
 use Rattle.texml_expand.specs.Expand.{level}
 use Rattle.texml_expand.specs.Contract.{Silent, Lower, Outside, outside, Stops, ReadsBecause, TellsBecause, IsFaultAt, stop_after}
 use Rattle.texml_expand.specs.Hearing.{Meets, Follows}
 use Rattle.texml_expand.specs.Held.{Held, state_of, Sound, Kept, Progress, IsAtLimit, ok_at}
 use Rattle.texml_expand.specs.Doing.{Does}
 use Rattle.texml_expand.proofs.Leading.{leads_at}
-use Rattle.texml_expand.proofs.Lawful.{By, Lawful}
+use Rattle.texml_expand.proofs.Lawful.{By, Lawful, lawful_give, lawful_then}
 use Rattle.texml_expand.proofs.Total.{total, at_depth, answer_given, gives_answer, answer_falls}
 use Rattle.texml_expand.proofs.Meeting.{meets_then, meets_stop, meets_silent, part_untold, stops_then, stops_same, silent_fails_not}
 use Rattle.texml_expand.proofs.Fronts.{kept_then, kept_itself}
@@ -146,3 +146,35 @@ module _ {T : Type 0} (hear part : T → Record → T → Type 0) where
 
   pub does_lower : {A : Type 0} (r : By A) → Lawful r → (result : Result A Stop) (old new : Held) (f g : ℕ) (a b : T) → Does hear part (λ n. r (level n)) result old new f g a b → OnOk result (Lower 0 (state_of old) (state_of new))
   does_lower r l result old new f g a b d = did_lower r l result old new f g a b (did_of r l result old new f g a b d)
+
+  -- a call that asks nothing, by depth
+  pub does_silent : {A : Type 0} (r : By A) → Lawful r → (result : Result A Stop) (old new : Held) (f : ℕ) (a : T) → Silent (r total (state_of old)) result (state_of new) → new.stop ≡ stop_after result → IsAtLimit result new
+      → OnOk result (Kept old new) → Progress old new → Does hear part (λ n. r (level n)) result old new f f a a
+  does_silent r l result old new f a h kept limit keeps progress = does_of r l result old new f f a a (did_silent (r total (state_of old)) result old new f a h kept limit keeps progress)
+
+  -- a fault, by depth
+  pub does_fault : {A : Type 0} (r : By A) → Lawful r → (code : ℕ) (about : List ℕ) (e : Stop) (old new : Held) (f : ℕ) (a : T) → r total (state_of old) ≡ Ended (Tex (fault_at code about old.place)) nothing → IsFaultAt code about old.place e
+      → new ≡ record old { stop = Some e } → Does hear part (λ n. r (level n)) (Err e) old new f f a a
+  does_fault r l code about e old new f a is fault e' = does_of r l (Err e) old new f f a a (did_fault (r total (state_of old)) code about e old new f a is fault e')
+
+  -- want of memory, by depth
+  pub does_out : {A : Type 0} (r : By A) → Lawful r → (e : Stop) (old new : Held) (f : ℕ) (a : T) → e ≡ stop.NoMemory → new ≡ record old { stop = Some stop.NoMemory } → Does hear part (λ n. r (level n)) (Err e) old new f f a a
+  does_out r l e old new f a is e' = does_of r l (Err e) old new f f a a (did_out (r total (state_of old)) e old new f a is e')
+
+  -- a value that is had without a change, by depth
+  pub does_now : {A : Type 0} (v : A) (h : Held) (f : ℕ) (a : T) → Sound h → h.stop ≡ None → Does hear part (λ n. give v) (Ok v) h h f f a a
+  does_now v h f a sound running = does_of (λ c. give v) (lawful_give v) (Ok v) h h f f a a (did_now v h f a sound running)
+
+  -- a call and what follows it, by depth
+  abbrev Next : {A B : Type 0} → By A → (A → By B) → By B
+  Next r q c s = chain (r c s) (λ v. q v c)
+
+  pub does_stop : {A B : Type 0} (r : By A) (q : A → By B) → Lawful r → ((v : A) → Lawful (q v)) → (e : Stop) (old new : Held) (f g : ℕ) (a b : T) → Does hear part (λ n. r (level n)) (Err e) old new f g a b
+      → Does hear part (λ n. Next r q (level n)) (Err e) old new f g a b
+  does_stop r q l m e old new f g a b d = does_of (Next r q) (lawful_then r q l m) (Err e) old new f g a b (did_stop (r total (state_of old)) (λ v. q v total) e old new f g a b (did_of r l (Err e) old new f g a b d))
+
+  pub does_then : {A B : Type 0} (r : By A) (q : A → By B) → Lawful r → (m : (v : A) → Lawful (q v)) → (v : A) (result : Result B Stop) (old mid new : Held) (f g h : ℕ) (a b c : T) → Does hear part (λ n. r (level n)) (Ok v) old mid f g a b
+      → Does hear part (λ n. q v (level n)) result mid new g h b c → Does hear part (λ n. Next r q (level n)) result old new f h a c
+  does_then r q l m v result old mid new f g h a b c d e =
+      does_of (Next r q) (lawful_then r q l m) result old new f h a c
+      (did_then (r total (state_of old)) (λ v. q v total) v result old mid new f g h a b c (did_of r l (Ok v) old mid f g a b d) (did_of (q v) (m v) result mid new g h b c e))

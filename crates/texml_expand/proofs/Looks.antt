@@ -118,12 +118,12 @@ module _ {T : Type 0} (hear part : T → Record → T → Type 0) (g : Remainder
   Scan seen r old new f k a b = Did hear part (total.scan g (all_seen_at old.names seen) (state_of old)) r old new f k a b
 
   -- an engine that looks at tokens: these were seen, the scanner stands for what is left, and what it does from now on is what the whole does
-  pub record Scanning (old : Held) (f : ℕ) (a : T) (left : Remainder Value) (x : Scanned) (seen : List SeenCode) (now : Held) (k : ℕ) (b : T) : Type 0 where
+  pub record Scanning (old : Held) (f : ℕ) (a : T) (rest : Remainder Value) (x : Scanned) (seen : List SeenCode) (now : Held) (k : ℕ) (b : T) : Type 0 where
     pub running : now.stop ≡ None
     pub sound : Sound now
     pub within : All (SeenWithin (length now.names)) seen
     pub is : g (looks_in seen) ≡ scanned_as x
-    pub left : GoesOn x ((more : List Look) → left more ≡ g (looks_in seen ++ more))
+    pub left : GoesOn x ((more : List Look) → rest more ≡ g (looks_in seen ++ more))
     pub lower : Lower 0 (state_of old) (state_of now)
     pub on : (r : Result Value Stop) (new : Held) (h : ℕ) (c : T) → Scan seen r now new k h b c → Scan [] r old new f h a c
 
@@ -213,7 +213,7 @@ module _ {T : Type 0} (hear part : T → Record → T → Type 0) (g : Remainder
       → Scanning old f a (machine_rest n) z (seen ++ record { token = t.token; look = l } ∷ []) new h c
   scanning_on old now mid new f k j h a b y c m n x z seen raw t l i some d w low u lower turned =
       let left : (more : List Look) → machine_rest m more ≡ g (looks_in seen ++ more) = goes_on x raw ((more : List Look) → machine_rest m more ≡ g (looks_in seen ++ more)) some i.left in
-      let first = record { token = token_at mid.names t.token; counts = token_at mid.names t.counts } in
+      let first : Looked = record { token = token_at mid.names t.token; counts = token_at mid.names t.counts } in
       let same = look_same total g (all_seen_at now.names seen) (machine_rest m) (token_at mid.names t.counts) (state_of mid) (λ more. left more ∙ ap (λ l. g (l ++ more)) (sym (looks_at now.names seen))) in
       let mine : SeenCode = record { token = t.token; look = l } in
       let kept : Kept now new = kept_then now mid new d.keeps u.keeps in

@@ -1,12 +1,18 @@
 -- Fetching and expanding, step by step.
-use Rattle.std.proofs.Common.{◌≡◌, ◌∙◌, ◌-◌, ◌≤◌, ◌<◌, ℕ, List, Option, Some, None, Result, Ok, Err, refl, sym, subst, arith}
+use Rattle.std.proofs.Common.{◌≡◌, ◌∙◌, ◌+◌, ◌-◌, ◌++◌, map, length, ◌≤◌, ◌<◌, ℕ, List, Option, Some, None, Result, Ok, Err, refl, sym, ap, subst, arith}
+use Rattle.std.specs.Result.{OnOk}
 use Rattle.texml_token.specs.Token.{Token}
+use Rattle.texml_token.specs.declared.tokens.Token.{Token as TokenCode}
+use Rattle.texml_token.specs.Numbers.{tokens_at, TokensWithin}
 use Rattle.texml_watch.specs.declared.record.Record.{Record}
 use Rattle.texml_expand.specs.declared.stop.Stop.{Stop}
+use Rattle.texml_expand.specs.Rest.{Tok}
 use Rattle.texml_expand.specs.Next.{Taken}
 use Rattle.texml_expand.specs.State.{State, nothing, Done, give}
 use Rattle.texml_expand.specs.Calls.{Expandable}
 use Rattle.texml_expand.specs.Expand.{Front, Nothing, Plain, Expands, front, begin, given, finish, expand_by, fetch_front, fetch_by, level}
+use Rattle.texml_expand.specs.declared.engine.expanding.Front.{Front as FrontCode}
+use Rattle.texml_expand.specs.Fronts.{front_at}
 use Rattle.texml_expand.specs.Held.{Held, state_of, Sound, Kept, Progress, IsAtLimit}
 use Rattle.texml_expand.specs.Contract.{Silent, Lower, Begins, Stops, outside, stop_after}
 use Rattle.texml_expand.specs.Hearing.{Meets}
@@ -15,9 +21,9 @@ use Rattle.texml_expand.proofs.Leading.{lower_none, lower_then, begins_lower}
 use Rattle.texml_expand.proofs.Lawful.{lawful_fetch, lawful_expand}
 use Rattle.texml_expand.proofs.Total.{total, fetch_is, expand_is}
 use Rattle.texml_expand.proofs.Levels.{lawful_given}
-use Rattle.texml_expand.proofs.Doing.{Did, does_of, did_of, did_as, did_then, did_stop, did_silent}
+use Rattle.texml_expand.proofs.Doing.{Did, does_of, did_of, did_as, did_then, did_stop, did_silent, did_now}
 use Rattle.texml_expand.proofs.Progress.{progress_then}
-use Rattle.texml_expand.proofs.Fronts.{kept_then}
+use Rattle.texml_expand.proofs.Fronts.{begun_kept, finished_kept}
 
 -- less is left to read
 pub lower_begun : (j : ℕ) (s t u : State) → Lower j s t → Begins t u → Lower 0 s u
@@ -44,6 +50,11 @@ module _ {T : Type 0} (hear part : T → Record → T → Type 0) where
   pub fetching_none : (h : Held) (f : ℕ) (a : T) → h.stop ≡ None → Sound h → Fetching h f a h f a
   fetching_none h f a running sound = record { running = running; sound = sound; lower = lower_none (state_of h); on = λ r new g c d. d }
 
+  -- the front is taken
+  pub front_did : (x y : FrontCode) (old new : Held) (f : ℕ) (a : T) → x ≡ y → front (state_of old) ≡ Done (front_at new.names x) (state_of new) nothing → new.stop ≡ None → Kept old new → Progress old new
+      → Did hear part (front (state_of old)) (Ok (front_at new.names y)) old new f f a a
+  front_did x y old new f a e is kept keeps progress = did_silent hear part (front (state_of old)) (Ok (front_at new.names y)) old new f a (is ∙ ap (λ z. Done (front_at new.names z) (state_of new) nothing) e) kept tt keeps progress
+
   -- what is fetched by the front
   by_front : (x : Front) (r : Result (Option Taken) Stop) (now mid new : Held) (g h : ℕ) (b c : T) → Did hear part (front (state_of now)) (Ok x) now mid g g b b → Did hear part (fetch_front total x (state_of mid)) r mid new g h b c
       → Fetch r now new g h b c
@@ -59,13 +70,11 @@ module _ {T : Type 0} (hear part : T → Record → T → Type 0) where
   pub fetch_stops : (e : Stop) (old now new : Held) (f g : ℕ) (a b : T) → Fetching old f a now g b → Did hear part (front (state_of now)) (Err e) now new g g b b → Does hear part (λ n. (level n).fetch) (Err e) old new f g a b
   fetch_stops e old now new f g a b i d = fetch_does (Err e) old now new f g g a b b i (front_stops e now new g b d)
 
-  pub fetch_ends : (old now new : Held) (f g : ℕ) (a b : T) → Fetching old f a now g b → Did hear part (front (state_of now)) (Ok Nothing) now new g g b b → Did hear part (Done {A = Option Taken} None (state_of new) nothing) (Ok None) new new g g b b
-      → Does hear part (λ n. (level n).fetch) (Ok None) old new f g a b
-  fetch_ends old now new f g a b i d e = fetch_does (Ok None) old now new f g g a b b i (by_front Nothing (Ok None) now new new g g b b d e)
+  pub fetch_ends : (old now new : Held) (f g : ℕ) (a b : T) → Fetching old f a now g b → Did hear part (front (state_of now)) (Ok Nothing) now new g g b b → Does hear part (λ n. (level n).fetch) (Ok None) old new f g a b
+  fetch_ends old now new f g a b i d = fetch_does (Ok None) old now new f g g a b b i (by_front Nothing (Ok None) now new new g g b b d (did_now hear part None new g b d.keeps.sound d.stops.kept))
 
-  pub fetch_plain : (t : Taken) (old now new : Held) (f g : ℕ) (a b : T) → Fetching old f a now g b → Did hear part (front (state_of now)) (Ok (Plain t)) now new g g b b → Did hear part (Done (Some t) (state_of new) nothing) (Ok (Some t)) new new g g b b
-      → Does hear part (λ n. (level n).fetch) (Ok (Some t)) old new f g a b
-  fetch_plain t old now new f g a b i d e = fetch_does (Ok (Some t)) old now new f g g a b b i (by_front (Plain t) (Ok (Some t)) now new new g g b b d e)
+  pub fetch_plain : (t : Taken) (old now new : Held) (f g : ℕ) (a b : T) → Fetching old f a now g b → Did hear part (front (state_of now)) (Ok (Plain t)) now new g g b b → Does hear part (λ n. (level n).fetch) (Ok (Some t)) old new f g a b
+  fetch_plain t old now new f g a b i d = fetch_does (Ok (Some t)) old now new f g g a b b i (by_front (Plain t) (Ok (Some t)) now new new g g b b d (did_now hear part (Some t) new g b d.keeps.sound d.stops.kept))
 
   -- behind one more expansion
   pub fetching_on : (t : Token) (x : Expandable) (old now mid new : Held) (f g h : ℕ) (a b c : T) → Fetching old f a now g b → Did hear part (front (state_of now)) (Ok (Expands t x)) now mid g g b b → Lower 1 (state_of now) (state_of mid)
@@ -102,3 +111,24 @@ module _ {T : Type 0} (hear part : T → Record → T → Type 0) where
   expand_ends t x list r old mid now new f g h a b c d k u =
       expand_does t x r old new f h a c (did_then hear part (begin (state_of old)) _ tt r old mid new f f h a a c d
       (did_then hear part (given total x (state_of mid)) (finish t) list r mid now new f g h a b c (did_of hear part (λ c. given c x) (lawful_given x) (Ok list) mid now f g a b k) u))
+
+  -- the same expansion
+  pub given_as : (x y : Expandable) (r : Result (List Token) Stop) (old new : Held) (f g : ℕ) (a b : T) → y ≡ x → Does hear part (λ n. given (level n) x) r old new f g a b → Does hear part (λ n. given (level n) y) r old new f g a b
+  given_as x y r old new f g a b e d = subst (λ z. Does hear part (λ n. given (level n) z) r old new f g a b) (sym e) d
+
+  -- an expansion begins
+  pub begins_did : (r : Result (Unit {0}) Stop) (old new : Held) (f : ℕ) (a : T) → Sound old → Silent (begin (state_of old)) r (state_of new) → new.stop ≡ stop_after r → OnOk r (new ≡ record old { begun = old.begun + 1; nesting = old.nesting + 1 })
+      → OnOk r (new.begun ≤ new.limit) → IsAtLimit r new → Progress old new → Did hear part (begin (state_of old)) r old new f f a a
+  begins_did (Ok tt) old new f a sound is kept same fits limit progress = did_silent hear part (begin (state_of old)) (Ok tt) old new f a is kept limit (begun_kept old new same fits sound) progress
+  begins_did (Err e) old new f a sound is kept same fits limit progress = did_silent hear part (begin (state_of old)) (Err e) old new f a is kept limit tt progress
+
+  -- and ends
+  pub finish_did : (t u : Token) (list : List TokenCode) (r : Result (Unit {0}) Stop) (old new : Held) (f g : ℕ) (a b : T) → Sound old → TokensWithin (length old.names) list → u ≡ t → Meets hear part (finish u (tokens_at old.names list) (state_of old)) r (state_of new) a b
+      → Stops r (outside 0 f) (outside 0 g) new.stop → OnOk r (new ≡ record old { items = map Tok list ++ old.items; nesting = old.nesting - 1 }) → IsAtLimit r new → Progress old new → Did hear part (finish t (tokens_at old.names list) (state_of old)) r old new f g a b
+  finish_did t u list r old new f g a b sound within e meets stops is limit progress = record {
+    meets = subst (λ x. Meets hear part (finish x (tokens_at old.names list) (state_of old)) r (state_of new) a b) e meets;
+    stops = stops;
+    limit = limit;
+    keeps = finished_kept old new list r is sound within;
+    progress = progress;
+  }

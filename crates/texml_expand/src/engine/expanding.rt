@@ -192,6 +192,7 @@ impl Engine {
         ensures lower { IfOk result (λ f. Lower (front_count f) (state_of self.old) (state_of self.new)) }
         ensures progress { Progress self.old self.new }
         ensures keeps { OnOk result (Kept self.old self.new) }
+        ensures limit { IsAtLimit result self.new }
         ensures within { IfOk result (FrontWithin (length self.new.names)) }
     {
         match self.take_front()? {
@@ -209,6 +210,7 @@ impl Engine {
         ensures kept { self.new.stop ≡ stop_after result }
         ensures same { OnOk result (self.new ≡ self.old) }
         ensures progress { Progress self.old self.new }
+        ensures limit { IsAtLimit result self.new }
         ensures count { IfOk result (λ f. front_count f ≡ 1) }
         ensures within { IfOk result (FrontWithin (length self.old.names)) }
     {
