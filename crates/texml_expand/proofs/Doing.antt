@@ -1,6 +1,7 @@
 -- Calls that go together: what each does by the one answer of its reading.
 use Rattle.std.proofs.Common.{◌≡◌, ◌≤◌, ℕ, List, Option, None, Some, Result, Ok, Err, refl, sym, ap, ◌∙◌, subst}
 use Rattle.std.specs.Result.{OnOk}
+use Rattle.texml_token.specs.Numbers.{Table}
 use Rattle.texml_watch.specs.declared.record.Record.{Record}
 use Rattle.texml_expand.specs.declared.stop.Stop.{Stop}
 use Rattle.texml_expand.specs.declared.stop.Stop.TheVariants as stop
@@ -46,6 +47,11 @@ limit_as A B stop.NoMemory h l = l
 keeps_then : {B : Type 0} (r : Result B Stop) (h i j : Held) → Kept h i → OnOk r (Kept i j) → OnOk r (Kept h j)
 keeps_then (Ok v) h i j g k = kept_then h i j g k
 keeps_then (Err e) h i j g k = tt
+
+-- what stands by numbers of names is the same where the engine is
+pub by_new : {A B : Type 0} (at : Table → A → B) (x : Answer B) (r : Result A Stop) (old new : Held) → Silent x (ok_at (at old.names) r) (state_of new) → OnOk r (new ≡ old) → Silent x (ok_at (at new.names) r) (state_of new)
+by_new at x (Ok v) old new h same = subst (λ (n : Held). x ≡ Done (at n.names v) (state_of new) nothing) (sym same) h
+by_new at x (Err e) old new h same = h
 
 module _ {T : Type 0} (hear part : T → Record → T → Type 0) where
   -- what a call did, by the answer of a reading
@@ -178,3 +184,16 @@ module _ {T : Type 0} (hear part : T → Record → T → Type 0) where
   does_then r q l m v result old mid new f g h a b c d e =
       does_of (Next r q) (lawful_then r q l m) result old new f h a c
       (did_then (r total (state_of old)) (λ v. q v total) v result old mid new f g h a b c (did_of r l (Ok v) old mid f g a b d) (did_of (q v) (m v) result mid new g h b c e))
+
+  -- a call that asks nothing, whose value stands for another one
+  pub does_as : {A B : Type 0} (at : A → B) (r : By B) → Lawful r → (result : Result A Stop) (old new : Held) (f : ℕ) (a : T) → Silent (r total (state_of old)) (ok_at at result) (state_of new) → new.stop ≡ stop_after result → IsAtLimit result new
+      → OnOk result (Kept old new) → Progress old new → Does hear part (λ n. r (level n)) (ok_at at result) old new f f a a
+  does_as at r l (Ok v) old new f a h kept limit keeps progress = does_silent r l (Ok (at v)) old new f a h kept limit keeps progress
+  does_as {A = A} {B = B} at r l (Err e) old new f a h kept limit keeps progress = does_silent r l (Err e) old new f a h kept (limit_as A B e new limit) tt progress
+
+  -- a call by what is found in the state
+  pub does_by : {A X : Type 0} (look : State → X) (r : X → By A) (x : X) (result : Result A Stop) (old new : Held) (f g : ℕ) (a b : T) → x ≡ look (state_of old) → Does hear part (λ n. r x (level n)) result old new f g a b
+      → Does hear part (λ n s. r (look s) (level n) s) result old new f g a b
+  does_by look r x result old new f g a b e d =
+      let at = subst (λ y. Does hear part (λ n. r y (level n)) result old new f g a b) e d in
+      record { follows = at.follows; stops = at.stops; limit = at.limit; keeps = at.keeps; progress = at.progress }

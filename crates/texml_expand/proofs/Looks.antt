@@ -1,5 +1,8 @@
 -- Looking at tokens for a quantity, step by step.
-use Rattle.std.proofs.Common.{◌≡◌, ◌-◌, ◌+◌, ◌≤◌, ℕ, suc, Bool, true, false, List, [], ◌∷◌, ◌++◌, map, length, Option, Some, None, Result, Ok, Err, refl, sym, ap, ap₂, ◌∙◌, arith, append_assoc}
+use Rattle.std.proofs.lemmas.Bool.Decides.{nat_tests}
+use Rattle.std.proofs.Common.{pos, ◌<◌, w32, to_z, ◌≡◌, ◌-◌, ◌+◌, ◌≤◌, ℕ, suc, Bool, true, false, List, [], ◌∷◌, ◌++◌, map, length, Option, Some, None, Result, Ok, Err, refl, sym, ap, ap₂, ◌∙◌, arith, append_assoc}
+use Rattle.std.specs.Char.{IsScalar}
+use Rattle.std.proofs.lemmas.Int.{to_z_pos}
 use Rattle.std.specs.List.{All}
 use Rattle.std.specs.Option.{option_map}
 use Rattle.std.proofs.lemmas.List.{map-append}
@@ -10,10 +13,23 @@ use Rattle.texml_token.specs.declared.tokens.Token.{Token as TokenCode}
 use Rattle.texml_token.specs.Numbers.{Table, Extends, token_at, TokenWithin}
 use Rattle.texml_token.proofs.Translation.{token_kept, token_more}
 use Rattle.texml_watch.specs.declared.record.Record.{Record}
+use Rattle.texml_scope.specs.Shown.{KeyCode}
+use Rattle.texml_scope.specs.Texts.{Meaning}
+use Rattle.texml_scope.specs.Numbers.{MeaningCode, meaning_at, key_at, name_text}
+use Rattle.texml_scope.specs.declared.values.MeaningOf.TheVariants as codes
+use Rattle.texml_token.specs.declared.fault_code.TheConstants.{MISSING_NUMBER}
+use Rattle.texml_expand.specs.declared.variables.Variable.{Variable}
+use Rattle.texml_expand.specs.declared.variables.Variable.TheVariants as variables
+use Rattle.texml_expand.specs.Variables.{Internal, key_of}
+use Rattle.texml_expand.specs.VariableCodes.{key_by, internal_at, held_by}
 use Rattle.texml_scan.specs.declared.looks.Look.{Look}
 use Rattle.texml_scan.specs.declared.looks.Look.TheVariants.{End}
+use Rattle.texml_scan.specs.declared.looks.Held.{Held as HeldLook}
 use Rattle.texml_scan.specs.declared.looks.Held.TheVariants as held
-use Rattle.texml_scan.specs.Grammar.{Expanded, Raw, Verdict, Wanting, Decided, Remainder}
+use Rattle.texml_scan.proofs.Meanings.{look_of-map_meaning}
+use Rattle.texml_expand.specs.declared.internal.Internal.{Internal as InternalCode}
+use Rattle.texml_expand.specs.declared.internal.Internal.TheVariants as internals
+use Rattle.texml_scan.specs.Grammar.{Expanded, Raw, Asked, Verdict, Wanting, Decided, Remainder}
 use Rattle.texml_scan.specs.Looked.{look_of}
 use Rattle.texml_expand.specs.declared.stop.Stop.{Stop}
 use Rattle.texml_expand.specs.declared.engine.expanding.Seen.{Seen as SeenCode}
@@ -21,10 +37,10 @@ use Rattle.texml_expand.specs.declared.engine.expanding.Looked.{Looked as Looked
 use Rattle.texml_expand.specs.declared.machine.Machine.{Machine}
 use Rattle.texml_expand.specs.declared.machine.Scanned.{Scanned}
 use Rattle.texml_expand.specs.declared.machine.Scanned.TheVariants as scanned
-use Rattle.texml_expand.specs.State.{State, nothing, Done, Reading, chain}
+use Rattle.texml_expand.specs.State.{State, nothing, Tex, Done, Ended, Reading, chain, give, fault_at}
 use Rattle.texml_expand.specs.Take.{means}
 use Rattle.texml_expand.specs.Calls.{Seen, looks, Calls}
-use Rattle.texml_expand.specs.Quantities.{Looked, look_by, look, decided_on, without_end, next_looked, scan_token, scan_next, scan_on, scan_by}
+use Rattle.texml_expand.specs.Quantities.{Looked, internal, held_of, look_by, look, decided_on, without_end, next_looked, scan_token, scan_next, scan_on, scan_by}
 use Rattle.texml_expand.specs.Expand.{level}
 use Rattle.texml_expand.specs.Machine.{Value, scanned_as, ended_as, GoesOn, IsOver, machine_rest}
 use Rattle.texml_expand.specs.Scanning.{seen_at, all_seen_at, SeenWithin, raw_in, Turned}
@@ -33,11 +49,39 @@ use Rattle.texml_expand.specs.Contract.{Lower}
 use Rattle.texml_expand.specs.Doing.{Does}
 use Rattle.texml_expand.proofs.Leading.{lower_none, lower_then}
 use Rattle.texml_expand.proofs.Lawful.{lawful_scan}
-use Rattle.texml_expand.proofs.Looking.{lawful_looked, lawful_look}
+use Rattle.texml_expand.proofs.Looking.{lawful_internal, lawful_looked, lawful_look}
 use Rattle.texml_expand.proofs.Total.{total, scan_is}
-use Rattle.texml_expand.proofs.Doing.{Did, does_of, did_of, did_as, did_then, did_stop}
+use Rattle.texml_expand.proofs.Doing.{Did, does_of, did_of, did_as, did_then, did_stop, did_now}
 use Rattle.texml_expand.proofs.Fronts.{kept_then}
 use Rattle.texml_expand.proofs.Progress.{progress_then}
+
+-- the number of a character is the same with a sign
+pub scalar_signed : (c : ℕ) → IsScalar c → to_z w32 c ≡ pos c
+scalar_signed c h = let below : c < 2147483648 = grind (arith, nat_tests) in to_z_pos w32 c below
+
+-- no internal quantity
+pub not_internal : (c : Calls) (texts : Table) (m : MeaningCode) (s : State) → ((place : ℕ) → m ≡ codes.Builtin place → ⊥) → ((k : KeyCode) → m ≡ codes.Quantity k → ⊥) → ((n : ℕ) → m ≡ codes.Number n → ⊥)
+    → internal c (meaning_at texts m) s ≡ Ended (Tex (fault_at MISSING_NUMBER [] s.place)) nothing
+not_internal c texts (codes.Builtin place) s builtin quantity number = absurd (builtin place refl)
+not_internal c texts (codes.Quantity k) s builtin quantity number = absurd (quantity k refl)
+not_internal c texts (codes.Number n) s builtin quantity number = absurd (number n refl)
+not_internal c texts m s builtin quantity number = refl
+
+pub no_variable : (o : Option Variable) → ((v : Variable) → o ≡ Some v → ⊥) → o ≡ None
+no_variable None h = refl
+no_variable (Some v) h = absurd (h v refl)
+
+-- the key of a variable has no names
+pub key_same : (texts : Table) (v : Variable) (n : ℕ) → key_at texts (key_by v n) ≡ key_of v n
+key_same texts variables.Cat n = refl
+key_same texts variables.Lower n = refl
+key_same texts variables.Upper n = refl
+key_same texts variables.EscapeChar n = refl
+key_same texts variables.EndLineChar n = refl
+key_same texts variables.Count n = refl
+key_same texts variables.Dimen n = refl
+key_same texts variables.Skip n = refl
+key_same texts variables.Toks n = refl
 
 -- What was seen
 
@@ -113,7 +157,58 @@ end_gone (scanned.Faulty f) h = refl
 look_same : {V : Type 0} (c : Calls) (g : Remainder V) (seen : List Seen) (left : Remainder V) (t : Token) (s : State) → ((more : List Look) → left more ≡ g (looks seen ++ more)) → look c g seen t s ≡ look c left [] t s
 look_same c g seen left t s h = ap (λ v. look_by c t (means s.world t) v s) (sym (h (look_of t (means s.world t) held.Nothing ∷ [])))
 
+-- the look of a token by the code, and what is held of a quantity
+pub look_at : (texts : Table) (t : Token) (m : MeaningCode) (h : HeldLook) → look_of t m h ≡ look_of t (meaning_at texts m) h
+look_at texts t m h = sym (look_of-map_meaning (name_text texts) (token_at texts) t m h)
+
+held_at : (texts : Table) (q : InternalCode) → held_by q ≡ held_of (internal_at texts q)
+held_at texts (internals.Number i) = refl
+held_at texts (internals.Dimension d) = refl
+held_at texts (internals.Glue x) = refl
+held_at texts (internals.Tokens list) = refl
+
+-- the look with the quantity that the token begins
+pub look_behind : (old new : Table) → Extends old new → (t : TokenCode) → TokenWithin (length old) t → (m : MeaningCode) (q : InternalCode)
+    → look_of (token_at new t) m (held_by q) ≡ look_of (token_at old t) (meaning_at old m) (held_of (internal_at new q))
+look_behind old new g t w m q = ap (λ x. look_of x m (held_by q)) (token_kept old new g t w) ∙ ap (look_of (token_at old t) m) (held_at new q) ∙ look_at old (token_at old t) m (held_of (internal_at new q))
+
+plain_look : (c : Calls) (t : Token) (m : Meaning) (x : Scanned) (s : State) → (x ≡ scanned.Asked → ⊥) → look_by c t m (scanned_as x) s ≡ Done (look_of t m held.Nothing) s nothing
+plain_look c t m scanned.Expanded s h = refl
+plain_look c t m scanned.Raw s h = refl
+plain_look c t m scanned.Asked s h = absurd (h refl)
+plain_look c t m (scanned.Decided v n) s h = refl
+plain_look c t m (scanned.Faulty f) s h = refl
+
 module _ {T : Type 0} (hear part : T → Record → T → Type 0) (g : Remainder Value) where
+  -- the verdict on one look
+  one_look : (t : Token) (m : Meaning) (x : Scanned) (s : State) → m ≡ means s.world t → g (look_of t m held.Nothing ∷ []) ≡ scanned_as x → look total g [] t s ≡ look_by total t m (scanned_as x) s
+  one_look t m x s same is = sym (ap (λ (m : Meaning). look_by total t m (g (look_of t m held.Nothing ∷ [])) s) same) ∙ ap (λ v. look_by total t m v s) is
+
+  pub look_now : (t : Token) (m : Meaning) (x : Scanned) (old : Held) (f : ℕ) (a : T) → Sound old → old.stop ≡ None → m ≡ means (state_of old).world t → g (look_of t m held.Nothing ∷ []) ≡ scanned_as x → (x ≡ scanned.Asked → ⊥)
+      → Does hear part (λ n. look (level n) g [] t) (Ok (look_of t m held.Nothing)) old old f f a a
+  look_now t m x old f a sound running same is other =
+      does_of hear part (λ c. look c g [] t) (lawful_look g [] t) (Ok (look_of t m held.Nothing)) old old f f a a
+      (did_as hear part _ _ (Ok (look_of t m held.Nothing)) old old f f a a (one_look t m x (state_of old) same is ∙ plain_look total t m x (state_of old) other) (did_now hear part (look_of t m held.Nothing) old f a sound running))
+
+  -- the quantity that it begins
+  by_internal : (t : Token) (m : Meaning) (r : Result Look Stop) (old new : Held) (f h : ℕ) (a b : T) → m ≡ means (state_of old).world t → g (look_of t m held.Nothing ∷ []) ≡ Wanting Asked
+      → Did hear part (look_by total t m (scanned_as scanned.Asked) (state_of old)) r old new f h a b → Does hear part (λ n. look (level n) g [] t) r old new f h a b
+  by_internal t m r old new f h a b same is d =
+      does_of hear part (λ c. look c g [] t) (lawful_look g [] t) r old new f h a b (did_as hear part _ _ r old new f h a b (one_look t m scanned.Asked (state_of old) same is) d)
+
+  pub look_stops : (t : Token) (m : Meaning) (e : Stop) (old new : Held) (f h : ℕ) (a b : T) → m ≡ means (state_of old).world t → g (look_of t m held.Nothing ∷ []) ≡ Wanting Asked → Does hear part (λ n. internal (level n) m) (Err e) old new f h a b
+      → Does hear part (λ n. look (level n) g [] t) (Err e) old new f h a b
+  look_stops t m e old new f h a b same is d =
+      by_internal t m (Err e) old new f h a b same is
+      (did_stop hear part (internal total m (state_of old)) (λ q. give (look_of t m (held_of q))) e old new f h a b (did_of hear part (λ c. internal c m) (lawful_internal m) (Err e) old new f h a b d))
+
+  pub look_done : (t : Token) (m : Meaning) (q : Internal) (old new : Held) (f h : ℕ) (a b : T) → m ≡ means (state_of old).world t → g (look_of t m held.Nothing ∷ []) ≡ Wanting Asked → Does hear part (λ n. internal (level n) m) (Ok q) old new f h a b
+      → Does hear part (λ n. look (level n) g [] t) (Ok (look_of t m (held_of q))) old new f h a b
+  look_done t m q old new f h a b same is d =
+      by_internal t m (Ok (look_of t m (held_of q))) old new f h a b same is
+      (did_then hear part (internal total m (state_of old)) (λ q. give (look_of t m (held_of q))) q (Ok (look_of t m (held_of q))) old new new f h h a b b (did_of hear part (λ c. internal c m) (lawful_internal m) (Ok q) old new f h a b d)
+      (did_now hear part (look_of t m (held_of q)) new h b d.keeps.sound d.stops.kept))
+
   abbrev Scan : List SeenCode → Result Value Stop → Held → Held → ℕ → ℕ → T → T → Type 0
   Scan seen r old new f k a b = Did hear part (total.scan g (all_seen_at old.names seen) (state_of old)) r old new f k a b
 

@@ -1,5 +1,5 @@
 -- Fetching and expanding, step by step.
-use Rattle.std.proofs.Common.{◌≡◌, ◌∙◌, ◌+◌, ◌-◌, ◌++◌, map, length, ◌≤◌, ◌<◌, ℕ, List, Option, Some, None, Result, Ok, Err, refl, sym, ap, subst, arith}
+use Rattle.std.proofs.Common.{◌≡◌, ◌∙◌, ◌+◌, ◌-◌, ◌++◌, map, length, ◌≤◌, ◌<◌, ℕ, Bool, List, Option, Some, None, Result, Ok, Err, refl, sym, ap, subst, arith}
 use Rattle.std.specs.Result.{OnOk}
 use Rattle.texml_token.specs.Token.{Token}
 use Rattle.texml_token.specs.declared.tokens.Token.{Token as TokenCode}
@@ -9,7 +9,9 @@ use Rattle.texml_expand.specs.declared.stop.Stop.{Stop}
 use Rattle.texml_expand.specs.Rest.{Tok}
 use Rattle.texml_expand.specs.Next.{Taken}
 use Rattle.texml_expand.specs.State.{State, nothing, Done, give}
+use Rattle.texml_expand.specs.declared.variables.Index.{Index}
 use Rattle.texml_expand.specs.Calls.{Expandable}
+use Rattle.texml_expand.specs.Quantities.{Looked, read_index, next_looked}
 use Rattle.texml_expand.specs.Expand.{Front, Nothing, Plain, Expands, front, begin, given, finish, expand_by, fetch_front, fetch_by, level}
 use Rattle.texml_expand.specs.declared.engine.expanding.Front.{Front as FrontCode}
 use Rattle.texml_expand.specs.Fronts.{front_at}
@@ -132,3 +134,11 @@ module _ {T : Type 0} (hear part : T → Record → T → Type 0) where
     keeps = finished_kept old new list r is sound within;
     progress = progress;
   }
+
+  -- the same index
+  pub index_as : (x y : Index) (r : Result ℕ Stop) (old new : Held) (f g : ℕ) (a b : T) → y ≡ x → Does hear part (λ n. read_index (level n) x) r old new f g a b → Does hear part (λ n. read_index (level n) y) r old new f g a b
+  index_as x y r old new f g a b e d = subst (λ z. Does hear part (λ n. read_index (level n) z) r old new f g a b) (sym e) d
+
+  -- the same way to look
+  pub looked_as : (x y : Bool) (r : Result (Option Looked) Stop) (old new : Held) (f g : ℕ) (a b : T) → y ≡ x → Does hear part (λ n. next_looked (level n) x) r old new f g a b → Does hear part (λ n. next_looked (level n) y) r old new f g a b
+  looked_as x y r old new f g a b e d = subst (λ z. Does hear part (λ n. next_looked (level n) z) r old new f g a b) (sym e) d

@@ -532,9 +532,9 @@ impl Engine {
             Err(_) => return Err(self.no_memory()),
         };
         let look = looked_at(&self.names, token, &meaning, Held::Nothing);
-        let scanned = machine.turn(look);
-        if scanned != Scanned::Asked {
-            return Ok((look, scanned));
+        match machine.turn(look) {
+            Scanned::Asked => {}
+            scanned => return Ok((look, scanned)),
         }
         if deep >= DEEPEST_QUANTITY {
             return Err(self.no_memory());
