@@ -8,14 +8,14 @@ use Rattle.texml_scope.specs.Texts.{Meaning}
 use Rattle.texml_scope.specs.declared.values.MeaningOf.TheVariants.{Undefined}
 use Rattle.texml_scan.specs.declared.looks.Look.{Look}
 use Rattle.texml_scan.specs.declared.looks.Look.TheVariants.{End}
-use Rattle.texml_scan.specs.Grammar.{Want, Verdict, Wanting, Decided, Faulty, Remainder}
+use Rattle.texml_scan.specs.Grammar.{Expanded, Raw, Verdict, Wanting, Decided, Faulty, Remainder}
 use Rattle.texml_expand.specs.Next.{Taken}
 use Rattle.texml_expand.specs.State.{State, Tex, Limit, room, nothing, Answer, Done, Ended, Unfinished, Reading, chain, IsDecided, fault_at, give}
 use Rattle.texml_expand.specs.Take.{take, meaning_of}
 use Rattle.texml_expand.specs.Arguments.{called}
 use Rattle.texml_expand.specs.Calls.{Expandable, Call, Number, RomanNumeral, The, expandable, Seen, looks, Calls}
 use Rattle.texml_expand.specs.Printed.{printed_tokens, roman_text}
-use Rattle.texml_expand.specs.Quantities.{Looked, int_text, expanded, next_wanted, look, put_last, decided_on, without_end, scan_token, scan_on, scan_by, the}
+use Rattle.texml_expand.specs.Quantities.{Looked, int_text, expanded, next_looked, look, put_last, decided_on, without_end, scan_token, scan_next, scan_on, scan_by, the}
 use Rattle.texml_expand.specs.Expand.{Front, Nothing, Plain, Expands, front_of, front_by, front_taken, front, begin, given, finished, finish, expand_by, fetch_front, fetch_by, step, level}
 use Rattle.texml_expand.specs.Contract.{Lower, Begins}
 use Rattle.texml_expand.proofs.Calling.{called_leads, called_decided}
@@ -23,7 +23,7 @@ use Rattle.texml_expand.proofs.Leading.{Leads, leads_chain, leads_at, leads_weak
 use Rattle.texml_expand.proofs.Deciding.{chain_decided, any, take_decided}
 use Rattle.texml_expand.proofs.Readings.{Grows, grows_refl, grows_trans, chain_grows, Mono, mono_same, mono_chain, Settles, settles_now, settles_within, settles_chain}
 use Rattle.texml_expand.proofs.Lawful.{By, GrowsCalls, Returns, CallsFall, Levels, AllSettle, Lawful, lawful_mono, lawful_silent, lawful_give, lawful_then, lawful_scan}
-use Rattle.texml_expand.proofs.Looking.{lawful_wanted, wanted_leads, lawful_look, lawful_the, put_room}
+use Rattle.texml_expand.proofs.Looking.{lawful_looked, looked_leads, lawful_look, lawful_the, put_room}
 
 -- What an expansion gives
 
@@ -124,10 +124,13 @@ module _ (c c' : Calls) (g : GrowsCalls c c') where
     scan_token_grows seen None s = grows_refl _
     scan_token_grows seen (Some x) s = chain_grows ((lawful_look r seen x.counts).grows c c' g s) (λ l u. g.scan r (seen ++ record { token = x.token; look = l } ∷ []) u)
 
+    scan_next_grows : (seen : List Seen) (raw : Bool) (s : State) → Grows (scan_next c r seen raw s) (scan_next c' r seen raw s)
+    scan_next_grows seen raw s = chain_grows ((lawful_looked raw).grows c c' g s) (scan_token_grows seen)
+
     scan_on_grows : (seen : List Seen) (v : Verdict V) (s : State) → Grows (scan_on c r seen v s) (scan_on c' r seen v s)
-    scan_on_grows seen (Wanting w) s = chain_grows ((lawful_wanted w).grows c c' g s) (scan_token_grows seen)
-    scan_on_grows seen (Decided v n) s = grows_refl _
-    scan_on_grows seen (Faulty f) s = grows_refl _
+    scan_on_grows seen (Wanting Raw) s = scan_next_grows seen true s
+    scan_on_grows seen (Wanting Expanded) s = scan_next_grows seen false s
+    scan_on_grows seen v s = grows_refl _
 
     pub scan_grows : (seen : List Seen) (s : State) → Grows (scan_by c r seen s) (scan_by c' r seen s)
     scan_grows seen s = scan_on_grows seen (r (looks seen)) s
@@ -222,8 +225,12 @@ module _ (c : Calls) (calls : CallsFall c) where
     token_leads seen s None t l = decided_leads 0 seen (without_end (r (looks seen ++ End ∷ []))) s t l
     token_leads seen s (Some x) t l = look_leads seen x s t l
 
+    scan_next_leads : (seen : List Seen) (raw : Bool) (s : State) → Leads (λ w u. Returns (length seen) s u) (scan_next c r seen raw s)
+    scan_next_leads seen raw s = leads_chain (λ o t. Lower (count o) s t) (λ w u. Returns (length seen) s u) (next_looked c raw s) (scan_token c r seen) (looked_leads c calls raw s) (token_leads seen s)
+
     scan_on_leads : (seen : List Seen) (v : Verdict V) (s : State) → Leads (λ w u. Returns (length seen) s u) (scan_on c r seen v s)
-    scan_on_leads seen (Wanting w) s = leads_chain (λ o t. Lower (count o) s t) (λ w u. Returns (length seen) s u) (next_wanted c w s) (scan_token c r seen) (wanted_leads c calls w s) (token_leads seen s)
+    scan_on_leads seen (Wanting Raw) s = scan_next_leads seen true s
+    scan_on_leads seen (Wanting Expanded) s = scan_next_leads seen false s
     scan_on_leads seen v s = decided_leads 0 seen v s s (lower_none s)
 
     scan_leads : (seen : List Seen) (s : State) → Leads (λ w u. Returns (length seen) s u) (scan_by c r seen s)

@@ -25,7 +25,9 @@ pub mod Scanning
 pub mod Printing
 pub mod Judging
 pub mod Fronts
+pub mod Doing
 pub mod Rounds
+pub mod Looks
 pub mod Least
 pub mod Fed
 pub mod Groups

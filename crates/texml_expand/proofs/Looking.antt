@@ -9,7 +9,7 @@ use Rattle.texml_scope.specs.declared.values.MeaningOf.TheVariants as meanings
 use Rattle.texml_scan.specs.declared.looks.Look.{Look}
 use Rattle.texml_scan.specs.declared.looks.Look.TheVariants.{End}
 use Rattle.texml_scan.specs.declared.looks.Held.TheVariants as held
-use Rattle.texml_scan.specs.Grammar.{Want, Expanded, Raw, Asked, Verdict, Wanting, Decided, Faulty, Remainder}
+use Rattle.texml_scan.specs.Grammar.{Expanded, Raw, Asked, Verdict, Wanting, Decided, Faulty, Remainder}
 use Rattle.texml_scan.specs.Looked.{look_of}
 use Rattle.texml_expand.specs.declared.variables.Variable.{Variable}
 use Rattle.texml_expand.specs.declared.variables.Index.{Index}
@@ -20,7 +20,7 @@ use Rattle.texml_expand.specs.State.{State, room, nothing, Answer, Done, Ended, 
 use Rattle.texml_expand.specs.Take.{take, put, means}
 use Rattle.texml_expand.specs.Variables.{variable_at, index_of, key_of, among, a_character, a_register, Internal, Number, internal_in, value_of}
 use Rattle.texml_expand.specs.Calls.{Seen, looks, Calls}
-use Rattle.texml_expand.specs.Quantities.{int_text, Looked, looked_at, as_it_counts, as_itself, expanded, unexpanded, next_wanted, read_index, read_key, internal_of, internal, held_of, look_by, look, put_last, needed, shown, internal_now, the}
+use Rattle.texml_expand.specs.Quantities.{int_text, Looked, looked_at, as_it_counts, as_itself, expanded, unexpanded, next_looked, read_index, read_key, internal_of, internal, held_of, look_by, look, put_last, needed, shown, internal_now, the}
 use Rattle.texml_expand.specs.Contract.{Lower}
 use Rattle.texml_expand.proofs.Items.{size_put}
 use Rattle.texml_expand.proofs.Leading.{Leads, leads_chain, leads_weaker, count, lower_none, lower_then, lower_less, take_leads}
@@ -45,27 +45,28 @@ lawful_expanded = lawful_then (λ c. c.fetch) counts lawful_fetch lawful_counts
 pub expanded_leads : (c : Calls) → CallsFall c → (s : State) → Leads (λ o t. Lower (count o) s t) (expanded c s)
 expanded_leads c f s = leads_chain (λ o t. Lower (count o) s t) (λ o t. Lower (count o) s t) (c.fetch s) as_it_counts (f.fetch s) (λ o t low. subst (λ k. Lower k s t) (sym (count_map (looked_at t.world) o)) low)
 
+pub lawful_take : Lawful (λ c. take)
+lawful_take = lawful_silent take take_decided (λ s. leads_weaker (λ o t. Lower (count o) s t) (λ o t. Lower 0 s t) (take s) (λ o t. lower_less (count o) s t) (take_leads s))
+
 pub unexpanded_decided : (s : State) → IsDecided (unexpanded s)
 unexpanded_decided s = chain_decided (λ o t. Unit {0}) (take s) (λ o. give (option_map as_itself o)) (take_decided s) (any (take s)) (λ o t _. tt)
 
 unexpanded_leads : (s : State) → Leads (λ o t. Lower (count o) s t) (unexpanded s)
 unexpanded_leads s = leads_chain (λ o t. Lower (count o) s t) (λ o t. Lower (count o) s t) (take s) (λ o. give (option_map as_itself o)) (take_leads s) (λ o t low. subst (λ k. Lower k s t) (sym (count_map as_itself o)) low)
 
-abbrev raw_token : By (Option Looked)
+abbrev pub raw_token : By (Option Looked)
 raw_token c = unexpanded
 
-lawful_unexpanded : Lawful raw_token
+pub lawful_unexpanded : Lawful raw_token
 lawful_unexpanded = lawful_silent unexpanded unexpanded_decided (λ s. leads_weaker (λ o t. Lower (count o) s t) (λ o t. Lower 0 s t) (unexpanded s) (λ o t. lower_less (count o) s t) (unexpanded_leads s))
 
-pub lawful_wanted : (w : Want) → Lawful (λ c. next_wanted c w)
-lawful_wanted Raw = lawful_unexpanded
-lawful_wanted Expanded = lawful_expanded
-lawful_wanted Asked = lawful_expanded
+pub lawful_looked : (raw : Bool) → Lawful (λ c. next_looked c raw)
+lawful_looked true = lawful_unexpanded
+lawful_looked false = lawful_expanded
 
-pub wanted_leads : (c : Calls) → CallsFall c → (w : Want) (s : State) → Leads (λ o t. Lower (count o) s t) (next_wanted c w s)
-wanted_leads c f Raw s = unexpanded_leads s
-wanted_leads c f Expanded s = expanded_leads c f s
-wanted_leads c f Asked s = expanded_leads c f s
+pub looked_leads : (c : Calls) → CallsFall c → (raw : Bool) (s : State) → Leads (λ o t. Lower (count o) s t) (next_looked c raw s)
+looked_leads c f true s = unexpanded_leads s
+looked_leads c f false s = expanded_leads c f s
 
 -- Internal quantities
 
@@ -77,21 +78,27 @@ lawful_among : (fits : ℕ → Bool) (i : ℤ) → Lawful (λ c. among fits i)
 lawful_among fits (pos n) = lawful_among_if (fits n) n
 lawful_among fits (negsuc n) = lawful_fail ℕ BAD_CODE []
 
+pub lawful_character : (i : ℤ) → Lawful (λ c. a_character i)
+lawful_character i = lawful_among _ i
+
+pub lawful_register : (i : ℤ) → Lawful (λ c. a_register i)
+lawful_register i = lawful_among _ i
+
 pub lawful_index : (i : Index) → Lawful (λ c. read_index c i)
 lawful_index Alone = lawful_give 0
-lawful_index Character = lawful_then (λ c. c.scan int_text []) (λ i c. a_character i) (lawful_scan int_text) (λ i. lawful_among _ i)
-lawful_index Register = lawful_then (λ c. c.scan int_text []) (λ i c. a_register i) (lawful_scan int_text) (λ i. lawful_among _ i)
+lawful_index Character = lawful_then (λ c. c.scan int_text []) (λ i c. a_character i) (lawful_scan int_text) lawful_character
+lawful_index Register = lawful_then (λ c. c.scan int_text []) (λ i c. a_register i) (lawful_scan int_text) lawful_register
 
 pub lawful_key : (v : Variable) → Lawful (λ c. read_key c v)
 lawful_key v = lawful_then (λ c. read_index c (index_of v)) (λ n c. give (key_of v n)) (lawful_index (index_of v)) (λ n. lawful_give (key_of v n))
 
-abbrev value : Key → By Internal
+abbrev pub value : Key → By Internal
 value k c = value_of k
 
 pub lawful_value : (k : Key) → Lawful (value k)
 lawful_value k = lawful_by (λ s. internal_in k (s.world.top k)) (λ q c. give q) lawful_give
 
-lawful_internal_of : (v : Option Variable) → Lawful (λ c. internal_of c v)
+pub lawful_internal_of : (v : Option Variable) → Lawful (λ c. internal_of c v)
 lawful_internal_of None = lawful_fail Internal MISSING_NUMBER []
 lawful_internal_of (Some v) = lawful_then (λ c. read_key c v) value (lawful_key v) lawful_value
 
@@ -103,7 +110,7 @@ lawful_internal m = lawful_fail Internal MISSING_NUMBER []
 
 -- Looks
 
-abbrev look_asked : Token → Meaning → By Look
+abbrev pub look_asked : Token → Meaning → By Look
 look_asked t m c s = chain (internal c m s) (λ q. give (look_of t m (held_of q)))
 
 lawful_asked : (t : Token) (m : Meaning) → Lawful (look_asked t m)
@@ -123,27 +130,30 @@ lawful_look g seen t =
 
 -- What \the gives
 
-abbrev some_token : Option Looked → By Looked
+abbrev pub some_token : Option Looked → By Looked
 some_token o c = needed o
 
-lawful_needed : (o : Option Looked) → Lawful (some_token o)
+pub lawful_needed : (o : Option Looked) → Lawful (some_token o)
 lawful_needed None = lawful_fail Looked FILE_ENDED []
 lawful_needed (Some x) = lawful_give x
 
-lawful_internal_now : (t : Token) → Lawful (λ c. internal_now c t)
+pub lawful_internal_now : (t : Token) → Lawful (λ c. internal_now c t)
 lawful_internal_now t = lawful_by (λ s. means s.world t) (λ m c. internal c m) lawful_internal
 
-abbrev shown_now : Looked → By (List Token)
+abbrev pub shown_now : Looked → By (List Token)
 shown_now x c s = chain (internal_now c x.counts s) (λ q. give (shown q))
 
-abbrev shown_behind : Option Looked → By (List Token)
+abbrev pub shown_behind : Option Looked → By (List Token)
 shown_behind o c s = chain (needed o s) (λ x. shown_now x c)
 
+pub lawful_shown_now : (x : Looked) → Lawful (shown_now x)
+lawful_shown_now x = lawful_then (λ c. internal_now c x.counts) (λ q c. give (shown q)) (lawful_internal_now x.counts) (λ q. lawful_give (shown q))
+
+pub lawful_shown_behind : (o : Option Looked) → Lawful (shown_behind o)
+lawful_shown_behind o = lawful_then (some_token o) shown_now (lawful_needed o) lawful_shown_now
+
 pub lawful_the : Lawful the
-lawful_the =
-    lawful_then expanded shown_behind lawful_expanded
-    (λ o. lawful_then (some_token o) shown_now (lawful_needed o)
-    (λ x. lawful_then (λ c. internal_now c x.counts) (λ q c. give (shown q)) (lawful_internal_now x.counts) (λ q. lawful_give (shown q))))
+lawful_the = lawful_then expanded shown_behind lawful_expanded lawful_shown_behind
 
 -- Tokens that go back
 

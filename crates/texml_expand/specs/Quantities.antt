@@ -1,5 +1,5 @@
 -- Quantities, read token by token (The TeXbook, chapters 15 and 24).
-use Rattle.std.specs.Prelude.{ℕ, ℤ, pos, ◌-◌, Bool, List, [], ◌∷◌, ◌++◌, length, map, drop, Option, Some, None, if◌then◌else◌}
+use Rattle.std.specs.Prelude.{ℕ, ℤ, pos, ◌-◌, Bool, true, false, List, [], ◌∷◌, ◌++◌, length, map, drop, Option, Some, None, if◌then◌else◌}
 use Rattle.std.specs.Option.{option_map}
 use Rattle.std.specs.Fmt.{signed_decimal}
 use Rattle.texml_token.specs.Token.{Token, Fixed}
@@ -14,7 +14,7 @@ use Rattle.texml_scan.specs.declared.looks.Held.{Held}
 use Rattle.texml_scan.specs.declared.looks.Held.TheVariants as held
 use Rattle.texml_scan.specs.declared.steps.ScanFault.{ScanFault}
 use Rattle.texml_scan.specs.declared.steps.ScanFault.TheVariants.{MissingNumber, TooBig, TooLarge, IllegalUnit}
-use Rattle.texml_scan.specs.Grammar.{Want, Expanded, Raw, Asked, Verdict, Wanting, Decided, Faulty, Remainder, verdict}
+use Rattle.texml_scan.specs.Grammar.{Expanded, Raw, Asked, Verdict, Wanting, Decided, Faulty, Remainder, verdict}
 use Rattle.texml_scan.specs.Looked.{look_of}
 use Rattle.texml_scan.specs.Number.{number}
 use Rattle.texml_scan.specs.Measure.{dimension}
@@ -84,9 +84,10 @@ unexpanded = do
   o ← take
   give (option_map as_itself o)
 
-abbrev pub next_wanted : Calls → Want → Reading (Option Looked)
-next_wanted calls Raw = unexpanded
-next_wanted calls w = expanded calls
+-- the one or the other
+abbrev pub next_looked : Calls → Bool → Reading (Option Looked)
+next_looked calls true = unexpanded
+next_looked calls false = expanded calls
 
 -- Internal quantities
 
@@ -170,10 +171,14 @@ scan_token calls g seen (Some x) = do
   l ← look calls g seen x.counts
   calls.scan g (seen ++ record { token = x.token; look = l } ∷ [])
 
-abbrev pub scan_on : {V : Type 0} → Calls → Remainder V → List Seen → Verdict V → Reading V
-scan_on calls g seen (Wanting w) = do
-  o ← next_wanted calls w
+abbrev pub scan_next : {V : Type 0} → Calls → Remainder V → List Seen → Bool → Reading V
+scan_next calls g seen raw = do
+  o ← next_looked calls raw
   scan_token calls g seen o
+
+abbrev pub scan_on : {V : Type 0} → Calls → Remainder V → List Seen → Verdict V → Reading V
+scan_on calls g seen (Wanting Raw) = scan_next calls g seen true
+scan_on calls g seen (Wanting Expanded) = scan_next calls g seen false
 scan_on calls g seen v = decided_on seen v
 
 -- the shortest list that decides, of which those tokens that aren't part go back

@@ -6,7 +6,6 @@ use Rattle.texml_expand.specs.declared.engine.expanding.Seen.{Seen as SeenCode}
 use Rattle.texml_expand.specs.declared.machine.Machine.{Machine}
 use Rattle.texml_expand.specs.declared.machine.Scanned.{Scanned}
 use Rattle.texml_expand.specs.declared.machine.Scanned.TheVariants as scanned
-use Rattle.texml_scan.specs.Grammar.{Want, Expanded, Raw}
 use Rattle.texml_expand.specs.Calls.{Seen}
 use Rattle.texml_expand.specs.Machine.{scanned_as, GoesOn, machine_rest}
 
@@ -23,13 +22,9 @@ SeenWithin count x = TokenWithin count x.token
 abbrev pub raw_in : Scanned → Option Bool
 raw_in scanned.Expanded = Some false
 raw_in scanned.Raw = Some true
-raw_in scanned.Asked = Some false
+raw_in scanned.Asked = None
 raw_in (scanned.Decided v n) = None
 raw_in (scanned.Faulty f) = None
-
-abbrev pub wanted : Bool → Want
-wanted true = Raw
-wanted false = Expanded
 
 -- a scanner turned at one more look
 pub record Turned (old : Machine) (look : Look) (scanned : Scanned) (new : Machine) : Type 0 where

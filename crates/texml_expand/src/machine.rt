@@ -39,7 +39,7 @@ impl Scanned {
         match self {
             Scanned::Expanded => Some(false),
             Scanned::Raw => Some(true),
-            Scanned::Asked => Some(false),
+            Scanned::Asked => None,
             Scanned::Decided(_, _) => None,
             Scanned::Faulty(_) => None,
         }

@@ -12,13 +12,13 @@ ghost use Rattle.texml_expand.specs.State.{tell as spec_tell};
 ghost use Rattle.texml_expand.specs.Calls.{expandable};
 ghost use Rattle.texml_expand.specs.Expand.{front_taken, begin, finish, record_of, level};
 ghost use Rattle.texml_expand.specs.Expand.{front as spec_front, given as spec_given, fetch as spec_fetch, look as spec_look, expand_once as spec_expand_once, read_int as spec_read_int, read_index as spec_read_index};
-ghost use Rattle.texml_expand.specs.Quantities.{next_wanted, as_it_counts};
+ghost use Rattle.texml_expand.specs.Quantities.{next_looked, as_it_counts};
 ghost use Rattle.texml_expand.specs.Variables.{variable_at as spec_variable_at};
 ghost use Rattle.texml_expand.specs.Quantities.{the as spec_the, internal as spec_internal, internal_of, look as look_in};
 ghost use Rattle.texml_expand.specs.Fronts.{front_at, front_count, FrontWithin, is_undefined as means_nothing, expandable_at, ExpandableWithin, builtin_in, expandable_in, frozen_in, looked_at as looked_at_by, LookedWithin};
 ghost use Rattle.texml_expand.specs.VariableCodes.{internal_at, InternalWithin, HasNumber};
 ghost use Rattle.texml_expand.specs.Machine.{machine_rest};
-ghost use Rattle.texml_expand.specs.Scanning.{wanted, Turned};
+ghost use Rattle.texml_expand.specs.Scanning.{Turned};
 ghost use Rattle.texml_expand.specs.Held.{state_of, Sound, Kept, Progress, IsAtLimit, ok_at, read_at, ReadWithin};
 ghost use Rattle.texml_expand.specs.Contract.{Silent, AnswersKept, Lower, Begins, Stops, outside, stop_after};
 ghost use Rattle.texml_expand.specs.Hearing.{hears, hears_part, Meets, Follows};
@@ -192,6 +192,7 @@ impl Engine {
         ensures lower { IfOk result (λ f. Lower (front_count f) (state_of self.old) (state_of self.new)) }
         ensures progress { Progress self.old self.new }
         ensures keeps { OnOk result (Kept self.old self.new) }
+        ensures limit { IsAtLimit result self.new }
         ensures within { IfOk result (FrontWithin (length self.new.names)) }
     {
         match self.take_front()? {
@@ -209,6 +210,7 @@ impl Engine {
         ensures kept { self.new.stop ≡ stop_after result }
         ensures same { OnOk result (self.new ≡ self.old) }
         ensures progress { Progress self.old self.new }
+        ensures limit { IsAtLimit result self.new }
         ensures count { IfOk result (λ f. front_count f ≡ 1) }
         ensures within { IfOk result (FrontWithin (length self.old.names)) }
     {
@@ -422,7 +424,7 @@ impl Engine {
         requires running { self.old.stop ≡ None }
         requires sound { Sound self.old }
         ensures does { Does (hears T.wanting T.heard) (hears_part T.wanting T.part)
-            (λ n. next_wanted (level n) (wanted raw)) (ok_at (option_map (looked_at_by self.new.names)) result) self.old self.new (T.faults tell.old) (T.faults tell.new) tell.old tell.new }
+            (λ n. next_looked (level n) raw) (ok_at (option_map (looked_at_by self.new.names)) result) self.old self.new (T.faults tell.old) (T.faults tell.new) tell.old tell.new }
         ensures lower { IfOk result (λ o. Lower (length (option_to_list o)) (state_of self.old) (state_of self.new)) }
         ensures within { IfOk result (OptionWithin (LookedWithin (length self.new.names))) }
     {
@@ -530,9 +532,9 @@ impl Engine {
             Err(_) => return Err(self.no_memory()),
         };
         let look = looked_at(&self.names, token, &meaning, Held::Nothing);
-        let scanned = machine.turn(look);
-        if scanned != Scanned::Asked {
-            return Ok((look, scanned));
+        match machine.turn(look) {
+            Scanned::Asked => {}
+            scanned => return Ok((look, scanned)),
         }
         if deep >= DEEPEST_QUANTITY {
             return Err(self.no_memory());
