@@ -1,5 +1,5 @@
 -- Readings of quantities, and the commands that assign them: each has one answer, and leaves no more to be read.
-use Rattle.std.proofs.Common.{◌≡◌, ◌+◌, ◌≤◌, ◌<◌, ◌^◌, ℕ, ℤ, pos, negsuc, zero, suc, Bool, true, false, nat_le, if◌then◌else◌, List, [], Option, Some, None, Result, Ok, Err, refl, sym, ap, ◌∙◌, arith, codes}
+use Rattle.std.proofs.Common.{◌≡◌, ◌+◌, ◌≤◌, ◌<◌, ◌^◌, ℕ, ℤ, pos, negsuc, zero, suc, Bool, true, false, nat_le, if◌then◌else◌, List, [], Option, Some, None, Result, Ok, Err, refl, sym, ap, subst, ◌∙◌, arith, codes}
 use Rattle.std.specs.Option.{option_map}
 use Rattle.std.specs.Char.{IsScalar}
 use Rattle.texml_token.specs.Token.{Token}
@@ -15,7 +15,7 @@ use Rattle.texml_fixed.specs.declared.scaled.Scaled.{Scaled}
 use Rattle.texml_fixed.specs.declared.glue.Glue.{Glue as GlueValue}
 use Rattle.texml_token.specs.Numbers.{Table}
 use Rattle.texml_scope.specs.Shown.{KeyCode}
-use Rattle.texml_scope.specs.Numbers.{key_at}
+use Rattle.texml_scope.specs.Numbers.{key_at, KeyWithin}
 use Rattle.texml_expand.specs.declared.variables.Variable.{Variable}
 use Rattle.texml_expand.specs.declared.variables.Variable.TheVariants as variables
 use Rattle.texml_expand.specs.VariableCodes.{key_by as key_by_code}
@@ -376,3 +376,18 @@ counted_variable k c = record { variable = c.variable; is = c.is }
 -- the code of a character is small
 pub scalar_low : (n : ℕ) → IsScalar n → n < 2 ^ 31
 scalar_low n h = grind (arith, h)
+
+-- and are given in a table where they are in another
+pub variable_within : (v : Variable) (n m count : ℕ) → KeyWithin m (key_by_code v n) → KeyWithin count (key_by_code v n)
+variable_within variables.Cat n m count h = h
+variable_within variables.Lower n m count h = h
+variable_within variables.Upper n m count h = h
+variable_within variables.EscapeChar n m count h = tt
+variable_within variables.EndLineChar n m count h = tt
+variable_within variables.Count n m count h = tt
+variable_within variables.Dimen n m count h = tt
+variable_within variables.Skip n m count h = tt
+variable_within variables.Toks n m count h = tt
+
+pub key_given : (k : KeyCode) → IsVariable k → (m count : ℕ) → KeyWithin m k → KeyWithin count k
+key_given k v m count h = subst (KeyWithin count) (sym v.is.is) (variable_within v.variable v.is.number m count (subst (KeyWithin m) v.is.is h))

@@ -2,7 +2,7 @@
 
 ghost use Rattle.std.specs.Prelude.{◌≡◌, length, None, Ok, IfOk, OnOk, true, option_map};
 ghost use Rattle.texml_token.specs.Numbers.{token_at, TokenWithin, OptionWithin};
-ghost use Rattle.texml_scope.specs.Numbers.{key_at};
+ghost use Rattle.texml_scope.specs.Numbers.{key_at, KeyWithin};
 ghost use Rattle.texml_expand.specs.Contract.{Silent, outside, stop_after};
 ghost use Rattle.texml_expand.specs.Hearing.{hears, hears_part};
 ghost use Rattle.texml_expand.specs.Held.{state_of, Sound, Kept, ok_at};
@@ -89,6 +89,7 @@ fn count_by<F: Files, T: Teller>(
     requires running { engine.old.stop ≡ None }
     requires sound { Sound engine.old }
     requires key { IsCounted key }
+    requires within { KeyWithin (length engine.old.names) key }
     ensures does { Does (hears T.wanting T.heard) (hears_part T.wanting T.part) (spec_count_by global what (key_at engine.old.names key)) result engine.old engine.new
         (outside (F.faults files.old) (T.faults tell.old)) (outside (F.faults files.new) (T.faults tell.new)) tell.old tell.new }
     ensures files { files.new ≡ files.old }
@@ -109,6 +110,7 @@ fn count_with<F: Files, T: Teller>(
     requires running { engine.old.stop ≡ None }
     requires sound { Sound engine.old }
     requires key { IsCounted key }
+    requires within { KeyWithin (length engine.old.names) key }
     ensures does { Does (hears T.wanting T.heard) (hears_part T.wanting T.part) (spec_count_with global what (key_at engine.old.names key)) result engine.old engine.new
         (outside (F.faults files.old) (T.faults tell.old)) (outside (F.faults files.new) (T.faults tell.new)) tell.old tell.new }
     ensures files { files.new ≡ files.old }
@@ -130,6 +132,7 @@ fn count_on<F: Files, T: Teller>(
     requires running { engine.old.stop ≡ None }
     requires sound { Sound engine.old }
     requires key { IsCounted key }
+    requires given { KeyWithin (length engine.old.names) key }
     requires suits { Suits key old }
     requires within { IsCountWithin old }
     ensures does { Does (hears T.wanting T.heard) (hears_part T.wanting T.part) (spec_count_on global what (key_at engine.old.names key) old) result engine.old engine.new
@@ -216,6 +219,7 @@ fn count_now(engine: &mut Engine, key: Key) -> Result<Counted, Stop>
     requires running { engine.old.stop ≡ None }
     requires sound { Sound engine.old }
     requires key { IsCounted key }
+    requires within { KeyWithin (length engine.old.names) key }
     ensures is { Silent (spec_count_now (key_at engine.old.names key) (state_of engine.old)) result (state_of engine.new) }
     ensures kept { engine.new.stop ≡ stop_after result }
     ensures same { engine.new ≡ record engine.old { stop = engine.new.stop } }
@@ -223,7 +227,7 @@ fn count_now(engine: &mut Engine, key: Key) -> Result<Counted, Stop>
     ensures suits { IfOk result (Suits key) }
     ensures within { IfOk result IsCountWithin }
 {
-    let value = match engine.scope().get(&key) {
+    let value = match engine.value(&key) {
         Ok(value) => value,
         Err(_) => return Err(engine.no_memory()),
     };

@@ -65,6 +65,7 @@ fn assign_to<F: Files, T: Teller>(
     requires running { engine.old.stop ≡ None }
     requires sound { Sound engine.old }
     requires key { IsVariable key }
+    requires within { KeyWithin (length engine.old.names) key }
     ensures does { Does (hears T.wanting T.heard) (hears_part T.wanting T.part) (spec_assign_to global (key_at engine.old.names key)) result engine.old engine.new
         (outside (F.faults files.old) (T.faults tell.old)) (outside (F.faults files.new) (T.faults tell.new)) tell.old tell.new }
     ensures files { files.new ≡ files.old }
@@ -84,6 +85,7 @@ fn assign_next<F: Files, T: Teller>(
     requires running { engine.old.stop ≡ None }
     requires sound { Sound engine.old }
     requires key { IsVariable key }
+    requires within { KeyWithin (length engine.old.names) key }
     ensures does { Does (hears T.wanting T.heard) (hears_part T.wanting T.part) (spec_assign_next global (key_at engine.old.names key)) result engine.old engine.new
         (outside (F.faults files.old) (T.faults tell.old)) (outside (F.faults files.new) (T.faults tell.new)) tell.old tell.new }
     ensures files { files.new ≡ files.old }
@@ -378,7 +380,7 @@ fn copied_list<F: Files, T: Teller>(
     ensures files { files.new ≡ files.old }
 {
     let key = target_key(engine, files, tell, target)?;
-    match engine.scope().get(&key) {
+    match engine.value(&key) {
         Ok(value) => Ok(value),
         Err(_) => Err(engine.no_memory()),
     }
