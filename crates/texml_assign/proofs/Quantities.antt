@@ -15,7 +15,7 @@ use Rattle.texml_fixed.specs.declared.scaled.Scaled.{Scaled}
 use Rattle.texml_fixed.specs.declared.glue.Glue.{Glue as GlueValue}
 use Rattle.texml_token.specs.Numbers.{Table}
 use Rattle.texml_scope.specs.Shown.{KeyCode}
-use Rattle.texml_scope.specs.Numbers.{key_at, KeyWithin}
+use Rattle.texml_scope.specs.Numbers.{key_at, value_at, KeyWithin}
 use Rattle.texml_expand.specs.declared.variables.Variable.{Variable}
 use Rattle.texml_expand.specs.declared.variables.Variable.TheVariants as variables
 use Rattle.texml_expand.specs.VariableCodes.{key_by as key_by_code}
@@ -391,3 +391,9 @@ variable_within variables.Toks n m count h = tt
 
 pub key_given : (k : KeyCode) → IsVariable k → (m count : ℕ) → KeyWithin m k → KeyWithin count k
 key_given k v m count h = subst (KeyWithin count) (sym v.is.is) (variable_within v.variable v.is.number m count (subst (KeyWithin m) v.is.is h))
+
+-- a count is the same value for both
+pub count_value : (texts : Table) (c : Counted) → value_at texts (value_from c) ≡ value_from c
+count_value texts (Number i) = refl
+count_value texts (Dimension d) = refl
+count_value texts (Glue g) = refl
