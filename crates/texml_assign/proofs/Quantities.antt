@@ -58,7 +58,7 @@ use Rattle.texml_assign.specs.Operands.{is_equals, next_key}
 use Rattle.texml_assign.specs.Sets.{set, assign}
 use Rattle.texml_assign.specs.Assignments.{next_number, category_of, next_category, next_code, next_dimension, next_glue, begins_list, needed_start, list_start, value_now, absorbed_list, copied_list, list_from, list_by, next_list, value_for, assign_next, assign_to, assignment}
 use Rattle.texml_assign.specs.ShortNames.{short_index, short_meaning, short_number, short_equals, short_key, short_name}
-use Rattle.texml_assign.specs.Arithmetic.{counted, counted_by, counted_of, next_counted, count_of, count_now, product, quotient, fits, advanced, by_number, computed, value_from, count_on, count_with, count_by, count_target, arithmetic}
+use Rattle.texml_assign.specs.Arithmetic.{counted, counted_by, counted_of, next_counted, count_of, count_now, product, quotient, fits, number_sum, dimension_sum, sum_of_glue, by_number, by_dimension, by_glue, advanced, computed, value_from, count_on, count_with, count_by, count_target, arithmetic}
 use Rattle.texml_assign.proofs.Readings.{IsUnlimited, Lawful, Sure, Plain, chained, lawful_calls, lawful_plain, lawful_then, lawful_by, plain_by, plain_give, plain_fail, plain_change, plain_if, plain_then, sure}
 use Rattle.texml_assign.proofs.Looping.{LawfulLoop, lawful_loop}
 use Rattle.texml_assign.proofs.Parts.{kept_lower, plain_absorb, plain_set, plain_assign, plain_next_key, same_room}
@@ -320,13 +320,19 @@ plain_fits (Err e) = plain_fail _ _ _
 pub lawful_fits : (r : Result Counted NumFault) → Lawful (λ n. fits r)
 lawful_fits r = lawful_plain (fits r) (plain_fits r)
 
-pub lawful_advanced : (c : Counted) → Lawful (advanced c)
-lawful_advanced (Number a) = lawful_then read_int _ lawful_int (λ b. lawful_fits _)
-lawful_advanced (Dimension a) = lawful_then read_dimen _ lawful_dimen (λ b. lawful_fits _)
-lawful_advanced (Glue a) = lawful_then read_glue _ lawful_glue (λ b. lawful_fits _)
-
 pub lawful_by_number : (f : ℤ → Result Counted NumFault) → Lawful (by_number f)
 lawful_by_number f = lawful_then read_int (λ b n. fits (f b)) lawful_int (λ b. lawful_fits (f b))
+
+pub lawful_by_dimension : (f : Scaled → Result Counted NumFault) → Lawful (by_dimension f)
+lawful_by_dimension f = lawful_then read_dimen (λ b n. fits (f b)) lawful_dimen (λ b. lawful_fits (f b))
+
+pub lawful_by_glue : (f : GlueValue → Result Counted NumFault) → Lawful (by_glue f)
+lawful_by_glue f = lawful_then read_glue (λ b n. fits (f b)) lawful_glue (λ b. lawful_fits (f b))
+
+pub lawful_advanced : (c : Counted) → Lawful (advanced c)
+lawful_advanced (Number a) = lawful_by_number (number_sum a)
+lawful_advanced (Dimension a) = lawful_by_dimension (dimension_sum a)
+lawful_advanced (Glue a) = lawful_by_glue (sum_of_glue a)
 
 pub lawful_computed : (what : Arithmetic) (c : Counted) → Lawful (computed what c)
 lawful_computed Advance c = lawful_advanced c

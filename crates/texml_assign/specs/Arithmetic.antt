@@ -5,6 +5,7 @@ use Rattle.texml_token.specs.declared.fault_code.TheConstants.{FILE_ENDED, MISPL
 use Rattle.texml_fixed.specs.declared.fault.NumFault.{NumFault}
 use Rattle.texml_fixed.specs.declared.fault.NumFault.TheVariants.{Overflow}
 use Rattle.texml_fixed.specs.declared.arithmetic.TheConstants.{MAX_NUMBER, MAX_DIMENSION}
+use Rattle.texml_fixed.specs.declared.scaled.Scaled.{Scaled}
 use Rattle.texml_fixed.specs.declared.glue.Glue.{Glue as GlueValue}
 use Rattle.texml_fixed.specs.Arithmetic.{bounded, divided}
 use Rattle.texml_fixed.specs.Glue.{glue_sum, part_by_part}
@@ -84,22 +85,36 @@ abbrev pub fits : Result Counted NumFault → Reading Counted
 fits (Ok c) = give c
 fits (Err e) = fail OVERFLOW []
 
--- a sum with what comes next
-abbrev pub advanced : Counted → ByDepth Counted
-advanced (Number a) n = do
-  b ← read_int n
-  fits (as_number (bounded Overflow MAX_NUMBER (a +ℤ b)))
-advanced (Dimension a) n = do
-  b ← read_dimen n
-  fits (as_dimension (bounded Overflow MAX_NUMBER (a.0 +ℤ b.0)))
-advanced (Glue a) n = do
-  b ← read_glue n
-  fits (as_glue (glue_sum a b))
+-- sums
+abbrev pub number_sum : ℤ → ℤ → Result Counted NumFault
+number_sum a b = as_number (bounded Overflow MAX_NUMBER (a +ℤ b))
 
+abbrev pub dimension_sum : Scaled → Scaled → Result Counted NumFault
+dimension_sum a b = as_dimension (bounded Overflow MAX_NUMBER (a.0 +ℤ b.0))
+
+abbrev pub sum_of_glue : GlueValue → GlueValue → Result Counted NumFault
+sum_of_glue a b = as_glue (glue_sum a b)
+
+-- a result with a number, a dimension or glue that comes next
 abbrev pub by_number : (ℤ → Result Counted NumFault) → ByDepth Counted
 by_number f n = do
   b ← read_int n
   fits (f b)
+
+abbrev pub by_dimension : (Scaled → Result Counted NumFault) → ByDepth Counted
+by_dimension f n = do
+  b ← read_dimen n
+  fits (f b)
+
+abbrev pub by_glue : (GlueValue → Result Counted NumFault) → ByDepth Counted
+by_glue f n = do
+  b ← read_glue n
+  fits (f b)
+
+abbrev pub advanced : Counted → ByDepth Counted
+advanced (Number a) = by_number (number_sum a)
+advanced (Dimension a) = by_dimension (dimension_sum a)
+advanced (Glue a) = by_glue (sum_of_glue a)
 
 abbrev pub computed : Arithmetic → Counted → ByDepth Counted
 computed Advance a = advanced a

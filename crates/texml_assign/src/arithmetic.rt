@@ -2,6 +2,8 @@
 
 ghost use Rattle.std.specs.Prelude.{◌≡◌, length, None, Ok, IfOk, OnOk, true, option_map};
 ghost use Rattle.texml_token.specs.Numbers.{token_at, TokenWithin, OptionWithin};
+ghost use Rattle.texml_fixed.specs.Arithmetic.{IsWithin};
+ghost use Rattle.texml_fixed.specs.Glue.{IsGlueWithin};
 ghost use Rattle.texml_scope.specs.Numbers.{key_at, KeyWithin};
 ghost use Rattle.texml_expand.specs.Contract.{Silent, outside, stop_after};
 ghost use Rattle.texml_expand.specs.Hearing.{hears, hears_part};
@@ -9,7 +11,7 @@ ghost use Rattle.texml_expand.specs.Held.{state_of, Sound, Kept, ok_at};
 ghost use Rattle.texml_assign.specs.Doing.{Does};
 ghost use Rattle.texml_assign.specs.Targets.{variable_of as spec_variable_of, is_counted as spec_is_counted};
 ghost use Rattle.texml_assign.specs.TargetCodes.{IsCounted, IsCountWithin, IsLike, Suits, number_by};
-ghost use Rattle.texml_assign.specs.Arithmetic.{next_counted as spec_next_counted, counted as spec_counted, counted_by as spec_counted_by, counted_of as spec_counted_of, count_now as spec_count_now, as_number as spec_as_number, as_dimension as spec_as_dimension, as_glue as spec_as_glue, product as spec_product, quotient as spec_quotient, fits as spec_fits, advanced as spec_advanced, computed as spec_computed, value_from as spec_value_from, count_on as spec_count_on, count_with as spec_count_with, count_by as spec_count_by, count_target as spec_count_target, arithmetic as spec_arithmetic};
+ghost use Rattle.texml_assign.specs.Arithmetic.{next_counted as spec_next_counted, counted as spec_counted, counted_by as spec_counted_by, counted_of as spec_counted_of, count_now as spec_count_now, as_number as spec_as_number, as_dimension as spec_as_dimension, as_glue as spec_as_glue, product as spec_product, quotient as spec_quotient, fits as spec_fits, number_sum as spec_number_sum, dimension_sum as spec_dimension_sum, sum_of_glue as spec_sum_of_glue, by_number, by_dimension, by_glue, advanced as spec_advanced, computed as spec_computed, value_from as spec_value_from, count_on as spec_count_on, count_with as spec_count_with, count_by as spec_count_by, count_target as spec_count_target, arithmetic as spec_arithmetic};
 
 use crate::sets::set;
 use crate::table::Arithmetic;
@@ -266,15 +268,47 @@ fn computed<F: Files, T: Teller>(
 {
     match what {
         Arithmetic::Advance => advanced(engine, files, tell, old),
-        Arithmetic::Multiply => {
-            let number = engine.read_int(files, tell)?;
-            fits(engine, product(old, number))
-        }
-        Arithmetic::Divide => {
-            let number = engine.read_int(files, tell)?;
-            fits(engine, quotient(old, number))
-        }
+        Arithmetic::Multiply => multiplied(engine, files, tell, old),
+        Arithmetic::Divide => shared(engine, files, tell, old),
     }
+}
+
+// The product with the number that comes next.
+fn multiplied<F: Files, T: Teller>(
+    engine: &mut Engine,
+    files: &mut F,
+    tell: &mut T,
+    old: Counted,
+) -> Result<Counted, Stop>
+    requires running { engine.old.stop ≡ None }
+    requires sound { Sound engine.old }
+    requires within { IsCountWithin old }
+    ensures does { Does (hears T.wanting T.heard) (hears_part T.wanting T.part) (by_number (spec_product old)) result engine.old engine.new
+        (outside (F.faults files.old) (T.faults tell.old)) (outside (F.faults files.new) (T.faults tell.new)) tell.old tell.new }
+    ensures like { IfOk result (IsLike old) }
+    ensures files { files.new ≡ files.old }
+{
+    let number = engine.read_int(files, tell)?;
+    fits(engine, product(old, number))
+}
+
+// The quotient by the number that comes next.
+fn shared<F: Files, T: Teller>(
+    engine: &mut Engine,
+    files: &mut F,
+    tell: &mut T,
+    old: Counted,
+) -> Result<Counted, Stop>
+    requires running { engine.old.stop ≡ None }
+    requires sound { Sound engine.old }
+    requires within { IsCountWithin old }
+    ensures does { Does (hears T.wanting T.heard) (hears_part T.wanting T.part) (by_number (spec_quotient old)) result engine.old engine.new
+        (outside (F.faults files.old) (T.faults tell.old)) (outside (F.faults files.new) (T.faults tell.new)) tell.old tell.new }
+    ensures like { IfOk result (IsLike old) }
+    ensures files { files.new ≡ files.old }
+{
+    let number = engine.read_int(files, tell)?;
+    fits(engine, quotient(old, number))
 }
 
 // The sum with what comes next.
@@ -293,19 +327,67 @@ fn advanced<F: Files, T: Teller>(
     ensures files { files.new ≡ files.old }
 {
     match old {
-        Counted::Number(old) => {
-            let more = engine.read_int(files, tell)?;
-            fits(engine, as_number(add(old, more)))
-        }
-        Counted::Dimension(old) => {
-            let more = engine.read_dimen(files, tell)?;
-            fits(engine, as_dimension(add(old.0, more.0)))
-        }
-        Counted::Glue(old) => {
-            let more = engine.read_glue(files, tell)?;
-            fits(engine, as_glue(old.plus(more)))
-        }
+        Counted::Number(old) => advanced_number(engine, files, tell, old),
+        Counted::Dimension(old) => advanced_dimension(engine, files, tell, old),
+        Counted::Glue(old) => advanced_glue(engine, files, tell, old),
     }
+}
+
+// The sum with the number that comes next.
+fn advanced_number<F: Files, T: Teller>(
+    engine: &mut Engine,
+    files: &mut F,
+    tell: &mut T,
+    old: i32,
+) -> Result<Counted, Stop>
+    requires running { engine.old.stop ≡ None }
+    requires sound { Sound engine.old }
+    requires within { IsWithin old }
+    ensures does { Does (hears T.wanting T.heard) (hears_part T.wanting T.part) (by_number (spec_number_sum old)) result engine.old engine.new
+        (outside (F.faults files.old) (T.faults tell.old)) (outside (F.faults files.new) (T.faults tell.new)) tell.old tell.new }
+    ensures like { IfOk result (IsLike (Counted.Number old)) }
+    ensures files { files.new ≡ files.old }
+{
+    let more = engine.read_int(files, tell)?;
+    fits(engine, number_sum(old, more))
+}
+
+// The sum with the dimension that comes next.
+fn advanced_dimension<F: Files, T: Teller>(
+    engine: &mut Engine,
+    files: &mut F,
+    tell: &mut T,
+    old: Scaled,
+) -> Result<Counted, Stop>
+    requires running { engine.old.stop ≡ None }
+    requires sound { Sound engine.old }
+    requires within { IsWithin old.0 }
+    ensures does { Does (hears T.wanting T.heard) (hears_part T.wanting T.part) (by_dimension (spec_dimension_sum old)) result engine.old engine.new
+        (outside (F.faults files.old) (T.faults tell.old)) (outside (F.faults files.new) (T.faults tell.new)) tell.old tell.new }
+    ensures like { IfOk result (IsLike (Counted.Dimension old)) }
+    ensures files { files.new ≡ files.old }
+{
+    let more = engine.read_dimen(files, tell)?;
+    fits(engine, dimension_sum(old, more))
+}
+
+// The sum with the glue that comes next.
+fn advanced_glue<F: Files, T: Teller>(
+    engine: &mut Engine,
+    files: &mut F,
+    tell: &mut T,
+    old: Glue,
+) -> Result<Counted, Stop>
+    requires running { engine.old.stop ≡ None }
+    requires sound { Sound engine.old }
+    requires within { IsGlueWithin old }
+    ensures does { Does (hears T.wanting T.heard) (hears_part T.wanting T.part) (by_glue (spec_sum_of_glue old)) result engine.old engine.new
+        (outside (F.faults files.old) (T.faults tell.old)) (outside (F.faults files.new) (T.faults tell.new)) tell.old tell.new }
+    ensures like { IfOk result (IsLike (Counted.Glue old)) }
+    ensures files { files.new ≡ files.old }
+{
+    let more = engine.read_glue(files, tell)?;
+    fits(engine, sum_of_glue(old, more))
 }
 
 // A result, which must be within its bound.
@@ -322,6 +404,29 @@ fn fits(engine: &mut Engine, sum: Result<Counted, NumFault>) -> Result<Counted, 
         Ok(value) => Ok(value),
         Err(_) => Err(engine.bare_fault(fault_code::OVERFLOW)),
     }
+}
+
+fn number_sum(a: i32, b: i32) -> Result<Counted, NumFault>
+    ensures is { result ≡ spec_number_sum a b }
+    ensures like { IfOk result (IsLike (Counted.Number a)) }
+{
+    as_number(add(a, b))
+}
+
+fn dimension_sum(a: Scaled, b: Scaled) -> Result<Counted, NumFault>
+    ensures is { result ≡ spec_dimension_sum a b }
+    ensures like { IfOk result (IsLike (Counted.Dimension a)) }
+{
+    as_dimension(add(a.0, b.0))
+}
+
+fn sum_of_glue(a: Glue, b: Glue) -> Result<Counted, NumFault>
+    requires within { IsGlueWithin a }
+    requires more { IsGlueWithin b }
+    ensures is { result ≡ spec_sum_of_glue a b }
+    ensures like { IfOk result (IsLike (Counted.Glue a)) }
+{
+    as_glue(a.plus(b))
 }
 
 // The product with a number.
