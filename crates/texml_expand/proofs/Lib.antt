@@ -29,6 +29,7 @@ pub mod Doing
 pub mod Rounds
 pub mod Looks
 pub mod Showing
+pub mod Worth
 pub mod Least
 pub mod Fed
 pub mod Groups
