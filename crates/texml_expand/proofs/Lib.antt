@@ -28,6 +28,8 @@ pub mod Fronts
 pub mod Doing
 pub mod Rounds
 pub mod Looks
+pub mod Showing
+pub mod Worth
 pub mod Least
 pub mod Fed
 pub mod Groups

@@ -67,9 +67,9 @@ not_internal c texts (codes.Quantity k) s builtin quantity number = absurd (quan
 not_internal c texts (codes.Number n) s builtin quantity number = absurd (number n refl)
 not_internal c texts m s builtin quantity number = refl
 
-pub no_variable : (o : Option Variable) → ((v : Variable) → o ≡ Some v → ⊥) → o ≡ None
-no_variable None h = refl
-no_variable (Some v) h = absurd (h v refl)
+pub no_value : {A : Type 0} (o : Option A) → ((v : A) → o ≡ Some v → ⊥) → o ≡ None
+no_value None h = refl
+no_value (Some v) h = absurd (h v refl)
 
 -- the key of a variable has no names
 pub key_same : (texts : Table) (v : Variable) (n : ℕ) → key_at texts (key_by v n) ≡ key_of v n
