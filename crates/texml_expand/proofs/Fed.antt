@@ -20,7 +20,7 @@ use Rattle.texml_expand.specs.Contract.{Silent, IsFaultAt}
 use Rattle.texml_expand.specs.Least.{inner_token, next_tokens, decides, decided, is_enough, by_least}
 use Rattle.texml_expand.specs.Feeding.{Judge, IsFed, Short, Seen, Settled, CutShort, EndsWith, Refused, Cut, Feeds}
 use Rattle.texml_expand.proofs.Deciding.{after_nothing}
-use Rattle.texml_expand.proofs.Falls.{Leads, leads_at}
+use Rattle.texml_expand.proofs.Leading.{Leads, leads_at}
 use Rattle.texml_expand.proofs.Progress.{progress_itself, progress_then}
 use Rattle.texml_expand.proofs.Fronts.{kept_then, kept_itself}
 use Rattle.texml_expand.proofs.Least.{Takes, Took, takes_room, inner_takes, next_took, one_more, by_least_at, by_least_ends}

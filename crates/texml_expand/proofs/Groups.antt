@@ -19,7 +19,7 @@ use Rattle.texml_expand.specs.Held.{Held, state_of, ok_at}
 use Rattle.texml_expand.specs.Contract.{Silent, Lower}
 use Rattle.texml_expand.specs.Absorb.{closes, absorbed, absorb}
 use Rattle.texml_expand.specs.Feeding.{IsOpen, Judge, Feeds, judge_group}
-use Rattle.texml_expand.proofs.Falls.{Leads, leads_at, leads_weaker, lower_none, lower_then}
+use Rattle.texml_expand.proofs.Leading.{Leads, leads_at, leads_weaker, lower_none, lower_then}
 use Rattle.texml_expand.proofs.Least.{choose_yes, choose_no, Decides, by_least_leads}
 use Rattle.texml_expand.proofs.Fed.{verdict_at, Agrees, feeds_silent}
 
