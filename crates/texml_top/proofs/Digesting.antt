@@ -12,17 +12,17 @@ use Rattle.texml_tree.specs.declared.ops.Op.{Op}
 use Rattle.texml_tree.specs.declared.ops.Op.TheVariants as op
 use Rattle.texml_expand.specs.State.{State, Reading, give, fail, chain}
 use Rattle.texml_expand.specs.Arguments.{read_optional}
-use Rattle.texml_expand.proofs.Falls.{level_leads}
 use Rattle.texml_assign.specs.declared.executing.Executed.{Executed}
 use Rattle.texml_assign.specs.declared.executing.Executed.TheVariants.{Yes, NotMine}
 use Rattle.texml_assign.specs.Loop.{ByDepth, Next, On, loops}
-use Rattle.texml_assign.specs.Meaning.{means}
+use Rattle.texml_expand.specs.Take.{means}
 use Rattle.texml_assign.specs.NewCommand.{starred}
 use Rattle.texml_assign.specs.Sets.{begin_kind, end_kind}
 use Rattle.texml_assign.specs.Execute.{execute}
 use Rattle.texml_assign.proofs.Readings.{Lawful, Plain, lawful_plain, lawful_then, lawful_by, plain_give, plain_fail, plain_if, plain_then}
 use Rattle.texml_assign.proofs.Looping.{LawfulLoop, lawful_loop}
-use Rattle.texml_assign.proofs.Commands.{plain_begin, plain_end, lawful_fetch, lawful_execute}
+use Rattle.texml_assign.proofs.Commands.{plain_begin, plain_end, lawful_execute}
+use Rattle.texml_assign.proofs.Quantities.{lawful_fetch, fetch_leads}
 use Rattle.texml_assign.proofs.NewCommands.{plain_starred, plain_optional}
 use Rattle.texml_top.specs.declared.table.TheConstants.{PARAGRAPH, BREAK, CODE}
 use Rattle.texml_top.specs.declared.digest.Word.{Word}
@@ -106,7 +106,7 @@ pub lawful_turn : (seen : Gathered) (t : Token) → Lawful (digest_turn seen t)
 lawful_turn seen t = lawful_then (digest_token t) (more_seen seen) (lawful_token t) (lawful_more seen)
 
 pub digestion_laws : LawfulLoop digestion
-digestion_laws = record { source = lawful_fetch; lowers = level_leads; turn = lawful_turn; end = λ seen. plain_give (all_of seen) }
+digestion_laws = record { source = lawful_fetch; lowers = fetch_leads; turn = lawful_turn; end = λ seen. plain_give (all_of seen) }
 
 pub lawful_digests : Lawful (loops digestion nothing_yet)
 lawful_digests = lawful_loop digestion digestion_laws nothing_yet

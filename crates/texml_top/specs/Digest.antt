@@ -11,12 +11,12 @@ use Rattle.texml_scope.specs.declared.builtins.TheConstants as builtins
 use Rattle.texml_tree.specs.declared.ops.Op.{Op}
 use Rattle.texml_tree.specs.declared.ops.Op.TheVariants as op
 use Rattle.texml_expand.specs.State.{State, Answer, Reading, ◌>>=◌, ◌>>◌, give, fail}
-use Rattle.texml_expand.specs.Expand.{level}
+use Rattle.texml_expand.specs.Expand.{fetch}
 use Rattle.texml_expand.specs.Arguments.{read_optional}
 use Rattle.texml_assign.specs.declared.executing.Executed.{Executed}
 use Rattle.texml_assign.specs.declared.executing.Executed.TheVariants.{Yes, NotMine}
 use Rattle.texml_assign.specs.Loop.{ByDepth, Next, On, Loop, loops}
-use Rattle.texml_assign.specs.Meaning.{means}
+use Rattle.texml_expand.specs.Take.{means}
 use Rattle.texml_assign.specs.NewCommand.{starred}
 use Rattle.texml_assign.specs.Sets.{begin_kind, end_kind}
 use Rattle.texml_assign.specs.Execute.{execute}
@@ -106,7 +106,7 @@ digest_turn seen t n = do
   give (On (add_all seen ops))
 
 abbrev pub digestion : Loop Gathered (List Op)
-digestion = record { source = λ n. (level n).fetch; turn = digest_turn; end = λ seen. give (all_of seen) }
+digestion = record { source = fetch; turn = digest_turn; end = λ seen. give (all_of seen) }
 
 -- the operations of all tokens from here on; calls are nested at most n deep
 abbrev pub digests : State → ℕ → Answer (List Op)

@@ -17,7 +17,7 @@ ghost use Rattle.texml_top.specs.Digest.{digestion, digest_turn as spec_digest_t
 use crate::gather::{Gathered, Piece};
 use crate::verb::verb;
 use std::alloc::Global;
-use texml_assign::{Executed, begin_group, end_group, execute, meaning_of};
+use texml_assign::{Executed, begin_group, end_group, execute};
 use texml_base::Files;
 use texml_expand::{Engine, Stop};
 use texml_scope::builtins::{NEWLINE, PAR, SPACE, VERB};
@@ -147,7 +147,7 @@ fn digest_left<F: Files, T: Teller>(
         (outside (F.faults files.old) (T.faults tell.old)) (outside (F.faults files.new) (T.faults tell.new)) tell.old tell.new }
     ensures files { files.new ≡ files.old }
 {
-    let meaning = match meaning_of(engine, token) {
+    let meaning = match engine.means(token) {
         Ok(meaning) => meaning,
         Err(_) => return Err(engine.no_memory()),
     };
