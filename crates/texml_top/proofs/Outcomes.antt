@@ -13,7 +13,7 @@ use Rattle.texml_top.specs.Outcome.{Outcome, refused, page_outcome, text_of, fir
 use Rattle.texml_tree.specs.declared.ops.Op.{Op}
 use Rattle.texml_top.specs.declared.status.Status.{Status}
 use Rattle.texml_top.specs.declared.status.Status.TheVariants as status
-use Rattle.texml_assign.proofs.Readings.{decides_at, decides_one}
+use Rattle.texml_expand.proofs.Readings.{decides_at, decides_one}
 use Rattle.texml_top.proofs.Digesting.{lawful_digests}
 
 -- the outcome that an answer of digestion makes

@@ -3,6 +3,7 @@ use Rattle.std.specs.Option.{option_map}
 use Rattle.texml_token.specs.Numbers.{token_at}
 use Rattle.texml_expand.specs.State.{give}
 use Rattle.texml_expand.specs.Expand.{fetch}
+use Rattle.texml_expand.proofs.Leading.{lower_then}
 use Rattle.texml_expand.specs.Held.{state_of}
 use Rattle.texml_expand.specs.Contract.{outside}
 use Rattle.texml_expand.specs.Hearing.{hears, hears_part}
@@ -52,8 +53,9 @@ rounds-smaller g c =
     let t = token_at mid.names c.in-Some.token in
     let d = c.in_ok-digest_turn.ensures.does in let far = c.digest_turn.new.engine in let more = c.digest_turn.new.seen in
     let l = rw c.in-Some.is at (f.lower run) in let k = follows_lower _ _ (digest_turn seen t) (lawful_turn seen t) (On more) (state_of mid) (state_of far) _ _ d.follows in
-    let w = l.within i.going.kept.sound.budget in let v = k.within w in
-    let ne = c.if-begun.true in let is = c.begun.ensures in let begun = i.begun in let same = i.same in let limit = i.limit in let low = l.begun in let lim = l.limit in let low' = k.begun in let lim' = k.limit in
+    let both = lower_then 1 0 1 (state_of c.tokens.engine) (state_of mid) (state_of far) l k (omega arith) in
+    let ne = c.if-begun.true in let is = c.begun.ensures in let begun = i.begun in let same = i.same in let limit = i.limit in let low = both.begun in let lim = both.limit in
+    let w = both.within (omega (arith, ne)) in
     omega (arith, ne)
 
 pub tokens-smaller : goal.tokens-smaller
