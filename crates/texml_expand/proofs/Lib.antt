@@ -30,6 +30,7 @@ pub mod Rounds
 pub mod Looks
 pub mod Showing
 pub mod Worth
+pub mod Within
 pub mod Least
 pub mod Fed
 pub mod Groups

@@ -11,11 +11,14 @@ use Rattle.texml_expand.specs.Expand.{counted, fetched, expand_as, expand_token}
 use Rattle.texml_expand.proofs.Lawful.{By, Lawful, lawful_give, lawful_by, lawful_then, lawful_expand}
 use Rattle.texml_expand.proofs.Looking.{lawful_expanded}
 
-abbrev as_counted : Option Looked → By (Option Token)
+abbrev pub as_counted : Option Looked → By (Option Token)
 as_counted o c = counted o
 
+pub lawful_counted : (o : Option Looked) → Lawful (as_counted o)
+lawful_counted o = lawful_give (option_map (λ x. x.counts) o)
+
 pub lawful_fetched : Lawful fetched
-lawful_fetched = lawful_then expanded as_counted lawful_expanded (λ o. lawful_give (option_map (λ x. x.counts) o))
+lawful_fetched = lawful_then expanded as_counted lawful_expanded lawful_counted
 
 lawful_expand_as : (t : Token) (e : Option Expandable) → Lawful (λ c. expand_as c t e)
 lawful_expand_as t None = lawful_give tt

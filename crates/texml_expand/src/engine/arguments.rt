@@ -1,6 +1,6 @@
 //! Reading unexpanded: arguments, groups and signs.
 
-ghost use Rattle.std.specs.Prelude.{◌+◌, ◌≡◌, ◌≤◌, length, map, [], None, Some, IfSome, IfOk, OnOk, option_map, option_to_list, unwrap_or, false, slice_index_or};
+ghost use Rattle.std.specs.Prelude.{◌≡◌, ◌≤◌, ◌+◌, length, map, [], None, Some, IfSome, IfOk, OnOk, option_map, option_to_list, unwrap_or, false, slice_index_or};
 ghost use Rattle.std.specs.List.{All};
 ghost use Rattle.texml_token.specs.Numbers.{Table, token_at, tokens_at, TokenWithin, TokensWithin, OptionWithin};
 ghost use Rattle.texml_scope.specs.Numbers.{meaning_at, MacroWithin};
