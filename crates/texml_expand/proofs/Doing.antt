@@ -1,5 +1,5 @@
 -- Calls that go together: what each does by the one answer of its reading.
-use Rattle.std.proofs.Common.{◌≡◌, ◌≤◌, ℕ, List, Option, None, Some, Result, Ok, Err, refl, sym, ap, ◌∙◌, subst}
+use Rattle.std.proofs.Common.{◌≡◌, ℕ, List, Option, None, Some, Result, Ok, Err, refl, sym, ap, subst}
 use Rattle.std.specs.Result.{OnOk}
 use Rattle.texml_token.specs.Numbers.{Table}
 use Rattle.texml_watch.specs.declared.record.Record.{Record}
@@ -8,12 +8,12 @@ use Rattle.texml_expand.specs.declared.stop.Stop.TheVariants as stop
 use Rattle.texml_expand.specs.State.{State, nothing, Tex, Answer, Done, Ended, Reading, chain, give, fault_at}
 use Rattle.texml_expand.specs.Expand.{level}
 use Rattle.texml_expand.specs.Contract.{Silent, Lower, Outside, outside, Stops, ReadsBecause, TellsBecause, IsFaultAt, stop_after}
-use Rattle.texml_expand.specs.Hearing.{Meets, Follows}
+use Rattle.texml_expand.specs.Hearing.{Meets}
 use Rattle.texml_expand.specs.Held.{Held, state_of, Sound, Kept, Progress, IsAtLimit, ok_at}
 use Rattle.texml_expand.specs.Doing.{Does}
 use Rattle.texml_expand.proofs.Leading.{leads_at}
 use Rattle.texml_expand.proofs.Lawful.{By, Lawful, lawful_give, lawful_then}
-use Rattle.texml_expand.proofs.Total.{total, at_depth, answer_given, gives_answer, answer_falls}
+use Rattle.texml_expand.proofs.Total.{total, answer_given, gives_answer, answer_falls}
 use Rattle.texml_expand.proofs.Meeting.{meets_then, meets_stop, meets_silent, part_untold, stops_then, stops_same, silent_fails_not}
 use Rattle.texml_expand.proofs.Fronts.{kept_then, kept_itself}
 use Rattle.texml_expand.proofs.Progress.{progress_itself, progress_then, progress_stopped}

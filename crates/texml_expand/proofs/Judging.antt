@@ -1,5 +1,5 @@
 -- What a token can be expanded by, and what it counts as, over texts.
-use Rattle.std.proofs.Common.{◌≡◌, ℕ, zero, suc, Bool, true, false, ◌==◌, if◌then◌else◌, Option, Some, None, refl, ap, ◌∙◌}
+use Rattle.std.proofs.Common.{◌≡◌, ℕ, Bool, true, false, ◌==◌, if◌then◌else◌, Option, Some, None, refl, ap, ◌∙◌}
 use Rattle.std.specs.Option.{option_map}
 use Rattle.texml_token.specs.Numbers.{Table, token_at}
 use Rattle.texml_token.specs.declared.tokens.Token.{Token as TokenCode}
@@ -9,7 +9,7 @@ use Rattle.texml_scope.specs.Texts.{Meaning}
 use Rattle.texml_scope.specs.Numbers.{MeaningCode, meaning_at}
 use Rattle.texml_expand.specs.declared.engine.expanding.Expandable.{Expandable as ExpandableCode}
 use Rattle.texml_expand.specs.declared.engine.expanding.Expandable.TheVariants as expandables
-use Rattle.texml_expand.specs.Calls.{Expandable, Number, RomanNumeral, The, expandable_at, expandable}
+use Rattle.texml_expand.specs.Calls.{Expandable, expandable_at, expandable}
 use Rattle.texml_expand.specs.Quantities.{relaxed, frozen_as}
 use Rattle.texml_expand.specs.Fronts.{expandable_at as expandable_by, builtin_in, expandable_in, relaxed_in, frozen_in}
 

@@ -1,9 +1,8 @@
 -- Readings by calls that are lawful: what calls decide deeper calls do, no more is left to be read, and some depth decides where the calls in them do.
-use Rattle.std.proofs.Common.{◌≡◌, ◌+◌, ◌<◌, ◌≤◌, ℕ, Bool, true, false, if◌then◌else◌, List, [], length, Option, refl, sym, ap, ◌∙◌, subst, arith}
+use Rattle.std.proofs.Common.{◌≡◌, ◌+◌, ◌<◌, ◌≤◌, ℕ, Bool, true, false, if◌then◌else◌, List, [], length, arith}
 use Rattle.texml_token.specs.Token.{Token}
 use Rattle.texml_scan.specs.Grammar.{Remainder}
-use Rattle.texml_expand.specs.Next.{Taken}
-use Rattle.texml_expand.specs.State.{State, room, Gains, Answer, Done, Ended, Unfinished, Reading, chain, IsDecided, give, fail}
+use Rattle.texml_expand.specs.State.{State, room, Answer, Reading, chain, IsDecided, give, fail}
 use Rattle.texml_expand.specs.Calls.{Expandable, Seen, Calls}
 use Rattle.texml_expand.specs.Contract.{Lower, Begins}
 use Rattle.texml_expand.proofs.Leading.{Leads, leads_chain, leads_at, leads_weaker, count, lower_none, lower_then, lower_less, begins_lower}

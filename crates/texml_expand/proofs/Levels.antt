@@ -1,28 +1,27 @@
 -- Fetching, expanding and looking at tokens by depth: a deeper look answers the same, less is left to be read, and some depth decides.
-use Rattle.std.proofs.Common.{◌≡◌, ◌+◌, ◌-◌, ◌<◌, ◌≤◌, ℕ, zero, suc, Bool, true, false, nat_le, if◌then◌else◌, List, [], ◌∷◌, ◌++◌, length, length-append, Option, Some, None, refl, sym, ap, ◌∙◌, subst, arith, add-suc, add-zero, ◌⊎◌, inl, inr, eq-or-lt_of_le}
+use Rattle.std.proofs.Common.{◌≡◌, ◌+◌, ◌-◌, ◌<◌, ◌≤◌, ℕ, zero, suc, Bool, true, false, nat_le, if◌then◌else◌, List, [], ◌∷◌, ◌++◌, length, length-append, Option, Some, None, refl, ap, ◌∙◌, arith, add-suc, add-zero, inl, inr, eq-or-lt_of_le}
 use Rattle.std.proofs.lemmas.Bool.{leb-false}
 use Rattle.std.specs.Fmt.{signed_decimal}
 use Rattle.texml_token.specs.Token.{Token}
 use Rattle.texml_token.specs.declared.fault_code.TheConstants.{DEPTH}
 use Rattle.texml_scope.specs.Texts.{Meaning}
 use Rattle.texml_scope.specs.declared.values.MeaningOf.TheVariants.{Undefined}
-use Rattle.texml_scan.specs.declared.looks.Look.{Look}
 use Rattle.texml_scan.specs.declared.looks.Look.TheVariants.{End}
 use Rattle.texml_scan.specs.Grammar.{Expanded, Raw, Verdict, Wanting, Decided, Faulty, Remainder}
 use Rattle.texml_expand.specs.Next.{Taken}
-use Rattle.texml_expand.specs.State.{State, Tex, Limit, room, nothing, Answer, Done, Ended, Unfinished, Reading, chain, IsDecided, fault_at, give}
+use Rattle.texml_expand.specs.State.{State, Tex, Limit, nothing, Answer, Done, Ended, chain, IsDecided, fault_at, give}
 use Rattle.texml_expand.specs.Take.{take, meaning_of}
 use Rattle.texml_expand.specs.Arguments.{called}
 use Rattle.texml_expand.specs.Calls.{Expandable, Call, Number, RomanNumeral, The, expandable, Seen, looks, Calls}
 use Rattle.texml_expand.specs.Printed.{printed_tokens, roman_text}
-use Rattle.texml_expand.specs.Quantities.{Looked, int_text, expanded, next_looked, look, put_last, decided_on, without_end, scan_token, scan_next, scan_on, scan_by, the}
+use Rattle.texml_expand.specs.Quantities.{Looked, int_text, next_looked, look, put_last, decided_on, without_end, scan_token, scan_next, scan_on, scan_by}
 use Rattle.texml_expand.specs.Expand.{Front, Nothing, Plain, Expands, front_of, front_by, front_taken, front, begin, given, finished, finish, expand_by, fetch_front, fetch_by, step, level}
 use Rattle.texml_expand.specs.Contract.{Lower, Begins}
 use Rattle.texml_expand.proofs.Calling.{called_leads, called_decided}
-use Rattle.texml_expand.proofs.Leading.{Leads, leads_chain, leads_at, leads_weaker, count, lower_none, lower_then, lower_less, begins_lower, take_leads}
+use Rattle.texml_expand.proofs.Leading.{Leads, leads_chain, leads_weaker, count, lower_none, lower_then, begins_lower, take_leads}
 use Rattle.texml_expand.proofs.Deciding.{chain_decided, any, take_decided}
-use Rattle.texml_expand.proofs.Readings.{Grows, grows_refl, grows_trans, chain_grows, Mono, mono_same, mono_chain, Settles, settles_now, settles_within, settles_chain}
-use Rattle.texml_expand.proofs.Lawful.{By, GrowsCalls, Returns, CallsFall, Levels, AllSettle, Lawful, lawful_mono, lawful_silent, lawful_give, lawful_then, lawful_scan}
+use Rattle.texml_expand.proofs.Readings.{Grows, grows_refl, grows_trans, chain_grows}
+use Rattle.texml_expand.proofs.Lawful.{GrowsCalls, Returns, CallsFall, Levels, Lawful, lawful_silent, lawful_give, lawful_then, lawful_scan}
 use Rattle.texml_expand.proofs.Looking.{lawful_looked, looked_leads, lawful_look, lawful_the, put_room}
 
 -- What an expansion gives

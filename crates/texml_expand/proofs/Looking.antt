@@ -1,31 +1,29 @@
 -- What is read by looking at tokens is lawful.
-use Rattle.std.proofs.Common.{◌≡◌, ◌+◌, ◌-◌, ◌≤◌, ℕ, ℤ, pos, negsuc, Bool, true, false, if◌then◌else◌, List, [], ◌∷◌, ◌++◌, map, drop, length, length-append, length-drop, nat_le, Option, Some, None, refl, sym, ap, ◌∙◌, subst, arith}
+use Rattle.std.proofs.Common.{◌≡◌, ◌+◌, ◌-◌, ◌≤◌, ℕ, ℤ, pos, negsuc, Bool, true, false, if◌then◌else◌, List, [], ◌∷◌, ◌++◌, map, drop, length, length-drop, Option, Some, None, refl, sym, subst, arith}
 use Rattle.std.specs.Option.{option_map}
 use Rattle.std.proofs.lemmas.List.{length-map}
 use Rattle.texml_token.specs.Token.{Token}
 use Rattle.texml_token.specs.declared.fault_code.TheConstants.{BAD_CODE, FILE_ENDED, MISSING_NUMBER}
-use Rattle.texml_scope.specs.Texts.{Key, Meaning, World}
+use Rattle.texml_scope.specs.Texts.{Key, Meaning}
 use Rattle.texml_scope.specs.declared.values.MeaningOf.TheVariants as meanings
 use Rattle.texml_scan.specs.declared.looks.Look.{Look}
-use Rattle.texml_scan.specs.declared.looks.Look.TheVariants.{End}
 use Rattle.texml_scan.specs.declared.looks.Held.TheVariants as held
 use Rattle.texml_scan.specs.Grammar.{Expanded, Raw, Asked, Verdict, Wanting, Decided, Faulty, Remainder}
 use Rattle.texml_scan.specs.Looked.{look_of}
 use Rattle.texml_expand.specs.declared.variables.Variable.{Variable}
 use Rattle.texml_expand.specs.declared.variables.Index.{Index}
 use Rattle.texml_expand.specs.declared.variables.Index.TheVariants.{Alone, Character, Register}
-use Rattle.texml_expand.specs.Rest.{size}
 use Rattle.texml_expand.specs.Next.{Taken}
-use Rattle.texml_expand.specs.State.{State, room, nothing, Answer, Done, Ended, Unfinished, Reading, chain, IsDecided, give, fail, change}
-use Rattle.texml_expand.specs.Take.{take, put, means}
+use Rattle.texml_expand.specs.State.{State, room, chain, IsDecided, give, fail}
+use Rattle.texml_expand.specs.Take.{take, means}
 use Rattle.texml_expand.specs.Variables.{variable_at, index_of, key_of, among, a_character, a_register, Internal, Number, internal_in, value_of}
 use Rattle.texml_expand.specs.Calls.{Seen, looks, Calls}
 use Rattle.texml_expand.specs.Quantities.{int_text, Looked, looked_at, as_it_counts, as_itself, expanded, unexpanded, next_looked, read_index, read_key, internal_of, internal, held_of, look_by, look, put_last, needed, shown, internal_now, the}
 use Rattle.texml_expand.specs.Contract.{Lower}
 use Rattle.texml_expand.proofs.Items.{size_put}
-use Rattle.texml_expand.proofs.Leading.{Leads, leads_chain, leads_weaker, count, lower_none, lower_then, lower_less, take_leads}
+use Rattle.texml_expand.proofs.Leading.{Leads, leads_chain, leads_weaker, count, lower_less, take_leads}
 use Rattle.texml_expand.proofs.Deciding.{chain_decided, any, take_decided}
-use Rattle.texml_expand.proofs.Lawful.{By, CallsFall, Lawful, lawful_silent, lawful_give, lawful_fail, lawful_if, lawful_by, lawful_then, lawful_fetch, lawful_scan}
+use Rattle.texml_expand.proofs.Lawful.{By, CallsFall, Lawful, lawful_silent, lawful_give, lawful_fail, lawful_by, lawful_then, lawful_fetch, lawful_scan}
 
 -- Tokens
 

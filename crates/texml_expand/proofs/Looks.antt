@@ -1,10 +1,9 @@
 -- Looking at tokens for a quantity, step by step.
 use Rattle.std.proofs.lemmas.Bool.Decides.{nat_tests}
-use Rattle.std.proofs.Common.{pos, ◌<◌, w32, to_z, ◌≡◌, ◌-◌, ◌+◌, ◌≤◌, ℕ, suc, Bool, true, false, List, [], ◌∷◌, ◌++◌, map, length, Option, Some, None, Result, Ok, Err, refl, sym, ap, ap₂, ◌∙◌, arith, append_assoc}
+use Rattle.std.proofs.Common.{pos, ◌<◌, w32, to_z, ◌≡◌, ◌-◌, ◌≤◌, ℕ, suc, Bool, true, false, List, [], ◌∷◌, ◌++◌, map, length, Option, Some, None, Result, Ok, Err, refl, sym, ap, ap₂, ◌∙◌, arith, append_assoc}
 use Rattle.std.specs.Char.{IsScalar}
 use Rattle.std.proofs.lemmas.Int.{to_z_pos}
 use Rattle.std.specs.List.{All}
-use Rattle.std.specs.Option.{option_map}
 use Rattle.std.proofs.lemmas.List.{map-append}
 use Rattle.std.proofs.lemmas.List.Elements.{All-nil, All-cons, All-append}
 use Rattle.std.proofs.Math.ListN.{get_or}
@@ -29,7 +28,7 @@ use Rattle.texml_scan.specs.declared.looks.Held.TheVariants as held
 use Rattle.texml_scan.proofs.Meanings.{look_of-map_meaning}
 use Rattle.texml_expand.specs.declared.internal.Internal.{Internal as InternalCode}
 use Rattle.texml_expand.specs.declared.internal.Internal.TheVariants as internals
-use Rattle.texml_scan.specs.Grammar.{Expanded, Raw, Asked, Verdict, Wanting, Decided, Remainder}
+use Rattle.texml_scan.specs.Grammar.{Asked, Wanting, Decided, Remainder}
 use Rattle.texml_scan.specs.Looked.{look_of}
 use Rattle.texml_expand.specs.declared.stop.Stop.{Stop}
 use Rattle.texml_expand.specs.declared.engine.expanding.Seen.{Seen as SeenCode}
@@ -37,14 +36,14 @@ use Rattle.texml_expand.specs.declared.engine.expanding.Looked.{Looked as Looked
 use Rattle.texml_expand.specs.declared.machine.Machine.{Machine}
 use Rattle.texml_expand.specs.declared.machine.Scanned.{Scanned}
 use Rattle.texml_expand.specs.declared.machine.Scanned.TheVariants as scanned
-use Rattle.texml_expand.specs.State.{State, nothing, Tex, Done, Ended, Reading, chain, give, fault_at}
+use Rattle.texml_expand.specs.State.{State, nothing, Tex, Done, Ended, give, fault_at}
 use Rattle.texml_expand.specs.Take.{means}
 use Rattle.texml_expand.specs.Calls.{Seen, looks, Calls}
-use Rattle.texml_expand.specs.Quantities.{Looked, internal, held_of, look_by, look, decided_on, without_end, next_looked, scan_token, scan_next, scan_on, scan_by}
+use Rattle.texml_expand.specs.Quantities.{Looked, internal, held_of, look_by, look, decided_on, without_end, next_looked, scan_token, scan_next, scan_on}
 use Rattle.texml_expand.specs.Expand.{level}
 use Rattle.texml_expand.specs.Machine.{Value, scanned_as, ended_as, GoesOn, IsOver, machine_rest}
 use Rattle.texml_expand.specs.Scanning.{seen_at, all_seen_at, SeenWithin, raw_in, Turned}
-use Rattle.texml_expand.specs.Held.{Held, state_of, Sound, Kept, Progress}
+use Rattle.texml_expand.specs.Held.{Held, state_of, Sound, Kept}
 use Rattle.texml_expand.specs.Contract.{Lower}
 use Rattle.texml_expand.specs.Doing.{Does}
 use Rattle.texml_expand.proofs.Leading.{lower_none, lower_then}
@@ -53,7 +52,6 @@ use Rattle.texml_expand.proofs.Looking.{lawful_internal, lawful_looked, lawful_l
 use Rattle.texml_expand.proofs.Total.{total, scan_is}
 use Rattle.texml_expand.proofs.Doing.{Did, does_of, did_of, did_as, did_then, did_stop, did_now}
 use Rattle.texml_expand.proofs.Fronts.{kept_then}
-use Rattle.texml_expand.proofs.Progress.{progress_then}
 
 -- the number of a character is the same with a sign
 pub scalar_signed : (c : ℕ) → IsScalar c → to_z w32 c ≡ pos c

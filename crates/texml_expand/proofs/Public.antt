@@ -1,11 +1,9 @@
 -- What is fetched and expanded, as it is said outside, is lawful.
-use Rattle.std.proofs.Common.{[], Option, Some, None}
+use Rattle.std.proofs.Common.{Option, Some, None}
 use Rattle.std.specs.Option.{option_map}
 use Rattle.texml_token.specs.Token.{Token}
-use Rattle.texml_scope.specs.Texts.{Meaning}
-use Rattle.texml_expand.specs.State.{State, give}
 use Rattle.texml_expand.specs.Take.{meaning_of}
-use Rattle.texml_expand.specs.Calls.{Expandable, expandable, Calls}
+use Rattle.texml_expand.specs.Calls.{Expandable, expandable}
 use Rattle.texml_expand.specs.Quantities.{Looked, expanded}
 use Rattle.texml_expand.specs.Expand.{counted, fetched, expand_as, expand_token}
 use Rattle.texml_expand.proofs.Lawful.{By, Lawful, lawful_give, lawful_by, lawful_then, lawful_expand}

@@ -2,7 +2,6 @@
 use Rattle.std.proofs.Common.{◌≡◌, ◌+◌, ◌≤◌, ℕ, suc, refl, sym, ap, ◌∙◌, subst, arith}
 use Rattle.texml_expand.specs.State.{State, End, Gains, Answer, Done, Ended, Unfinished, Reading, after, chain, IsDecided}
 use Rattle.texml_expand.specs.Contract.{DecidesOn}
-use Rattle.texml_expand.proofs.Leading.{Leads}
 pub use Rattle.texml_expand.proofs.Deciding.{after_decided, decided_after}
 
 -- b is what a is, once a is decided

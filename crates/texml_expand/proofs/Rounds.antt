@@ -1,5 +1,5 @@
 -- Fetching and expanding, step by step.
-use Rattle.std.proofs.Common.{◌≡◌, ◌∙◌, ◌+◌, ◌-◌, ◌++◌, map, length, ◌≤◌, ◌<◌, ℕ, Bool, List, Option, Some, None, Result, Ok, Err, refl, sym, ap, subst, arith}
+use Rattle.std.proofs.Common.{◌≡◌, ◌∙◌, ◌+◌, ◌-◌, ◌++◌, map, length, ◌≤◌, ◌<◌, ℕ, Bool, List, Option, Some, None, Result, Ok, Err, sym, ap, subst, arith}
 use Rattle.std.specs.Result.{OnOk}
 use Rattle.texml_token.specs.Token.{Token}
 use Rattle.texml_token.specs.declared.tokens.Token.{Token as TokenCode}
@@ -8,11 +8,11 @@ use Rattle.texml_watch.specs.declared.record.Record.{Record}
 use Rattle.texml_expand.specs.declared.stop.Stop.{Stop}
 use Rattle.texml_expand.specs.Rest.{Tok}
 use Rattle.texml_expand.specs.Next.{Taken}
-use Rattle.texml_expand.specs.State.{State, nothing, Done, give}
+use Rattle.texml_expand.specs.State.{State, nothing, Done}
 use Rattle.texml_expand.specs.declared.variables.Index.{Index}
 use Rattle.texml_expand.specs.Calls.{Expandable}
 use Rattle.texml_expand.specs.Quantities.{Looked, read_index, next_looked}
-use Rattle.texml_expand.specs.Expand.{Front, Nothing, Plain, Expands, front, begin, given, finish, expand_by, fetch_front, fetch_by, level}
+use Rattle.texml_expand.specs.Expand.{Front, Nothing, Plain, Expands, front, begin, given, finish, expand_by, fetch_front, level}
 use Rattle.texml_expand.specs.declared.engine.expanding.Front.{Front as FrontCode}
 use Rattle.texml_expand.specs.Fronts.{front_at}
 use Rattle.texml_expand.specs.Held.{Held, state_of, Sound, Kept, Progress, IsAtLimit}
@@ -24,7 +24,6 @@ use Rattle.texml_expand.proofs.Lawful.{lawful_fetch, lawful_expand}
 use Rattle.texml_expand.proofs.Total.{total, fetch_is, expand_is}
 use Rattle.texml_expand.proofs.Levels.{lawful_given}
 use Rattle.texml_expand.proofs.Doing.{Did, does_of, did_of, did_as, did_then, did_stop, did_silent, did_now}
-use Rattle.texml_expand.proofs.Progress.{progress_then}
 use Rattle.texml_expand.proofs.Fronts.{begun_kept, finished_kept}
 
 -- less is left to read

@@ -1,8 +1,7 @@
 -- The one answer of each call, and the equation that it meets. The proofs of code speak of these.
-use Rattle.std.proofs.Common.{◌≡◌, ℕ, zero, suc, List, [], Option, sym, ap, ◌∙◌, subst}
+use Rattle.std.proofs.Common.{◌≡◌, ℕ, zero, suc, List, sym, ◌∙◌, subst}
 use Rattle.texml_token.specs.Token.{Token}
 use Rattle.texml_scan.specs.Grammar.{Remainder}
-use Rattle.texml_expand.specs.Next.{Taken}
 use Rattle.texml_expand.specs.State.{State, Answer, IsDecided}
 use Rattle.texml_expand.specs.Calls.{Expandable, Seen, Calls}
 use Rattle.texml_expand.specs.Quantities.{scan_by}

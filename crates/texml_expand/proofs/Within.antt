@@ -1,5 +1,5 @@
 -- What is read of tokens is what a grammar gives, so it lies within what the grammar gives.
-use Rattle.std.proofs.Common.{◌≡◌, ◌∙◌, ℕ, zero, suc, Bool, true, false, List, [], ◌∷◌, ◌++◌, Option, Some, None, Result, Ok, Err}
+use Rattle.std.proofs.Common.{◌∙◌, ℕ, zero, suc, Bool, true, false, List, [], ◌∷◌, ◌++◌, Option, Some, None, Result, Ok, Err}
 use Rattle.std.specs.Result.{IfOk}
 use Rattle.texml_watch.specs.declared.record.Record.{Record}
 use Rattle.texml_scan.specs.declared.looks.Look.{Look}
@@ -7,12 +7,10 @@ use Rattle.texml_scan.specs.declared.looks.Look.TheVariants.{End}
 use Rattle.texml_scan.specs.Grammar.{Expanded, Raw, Asked, Read, Wants, Gives, Fails, Text, Verdict, Wanting, Decided, Faulty, Remainder, verdict}
 use Rattle.texml_scan.proofs.Bounds.{OnGiven, Giving}
 use Rattle.texml_expand.specs.declared.stop.Stop.{Stop}
-use Rattle.texml_expand.specs.State.{State, Answer, chain}
+use Rattle.texml_expand.specs.State.{State}
 use Rattle.texml_expand.specs.Calls.{Seen, looks, Calls}
-use Rattle.texml_expand.specs.Quantities.{Looked, look, decided_on, without_end, next_looked, scan_token, scan_next, scan_on, scan_by}
+use Rattle.texml_expand.specs.Quantities.{Looked, look, decided_on, without_end, next_looked, scan_token, scan_next, scan_on}
 use Rattle.texml_expand.specs.Expand.{level}
-use Rattle.texml_expand.specs.Contract.{DecidesOn}
-use Rattle.texml_expand.specs.Hearing.{Follows}
 use Rattle.texml_expand.specs.Held.{Held, state_of}
 use Rattle.texml_expand.specs.Doing.{Does}
 use Rattle.texml_expand.proofs.Leading.{Leads, leads_chain, leads_at}

@@ -12,7 +12,7 @@ use Rattle.texml_scan.specs.Grammar.{Expanded, Raw, Asked, Verdict, Wanting, Dec
 use Rattle.texml_scan.specs.Looked.{look_of}
 use Rattle.texml_expand.specs.declared.stop.Stop.{Stop}
 use Rattle.texml_expand.specs.declared.stop.Stop.TheVariants as stop
-use Rattle.texml_expand.specs.State.{State, Gains, nothing, End as TheEnd, Tex, Limit, Answer, Done, Ended, Unfinished, Reading, after, chain, added, IsDecided}
+use Rattle.texml_expand.specs.State.{State, Gains, End as TheEnd, Tex, Limit, Answer, Done, Ended, Unfinished, Reading, after, chain, added, IsDecided}
 use Rattle.texml_expand.specs.Take.{means}
 use Rattle.texml_expand.specs.Calls.{Seen, looks, Calls}
 use Rattle.texml_expand.specs.Quantities.{Looked, look_by, look, decided_on, without_end, next_looked, scan_token, scan_next, scan_on, scan_by}
@@ -20,7 +20,7 @@ use Rattle.texml_expand.specs.Expand.{level}
 use Rattle.texml_expand.specs.declared.machine.Value.TheVariants as worths
 use Rattle.texml_expand.specs.Machine.{mapped}
 use Rattle.texml_expand.specs.Held.{Held, state_of}
-use Rattle.texml_expand.specs.Contract.{DecidesOn, outside}
+use Rattle.texml_expand.specs.Contract.{outside}
 use Rattle.texml_expand.specs.Hearing.{MeetsFirst, MeetsCut, MeetsPart, MeetsEnd, Meets, Follows}
 use Rattle.texml_expand.specs.Doing.{Does}
 use Rattle.texml_expand.proofs.Doing.{stops_as, limit_as}

@@ -1,6 +1,5 @@
 -- Only contracts of private functions need these: what the code's scanners make of looks.
-use Rattle.std.specs.Prelude.{ℕ, suc, List}
-use Rattle.texml_scan.specs.declared.looks.Look.{Look}
+use Rattle.std.specs.Prelude.{suc}
 use Rattle.texml_scan.specs.Grammar.{Expanded, Raw, Asked, Verdict, Wanting, Decided, Faulty, Remainder, verdict}
 use Rattle.texml_scan.specs.IntRest.{number_rest}
 use Rattle.texml_scan.specs.MeasureRest.{dimen_rest}

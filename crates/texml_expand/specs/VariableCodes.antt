@@ -1,5 +1,5 @@
 -- Only contracts of the code need these: the keys of variables with names by number, and what the code finds of a quantity.
-use Rattle.std.specs.Prelude.{◌≡◌, ◌≤◌, ℕ, List}
+use Rattle.std.specs.Prelude.{◌≡◌, ◌≤◌, ℕ}
 use Rattle.std.specs.Char.{IsScalar}
 use Rattle.texml_token.specs.Numbers.{Table, tokens_at, TokensWithin}
 use Rattle.texml_scope.specs.Shown.{KeyCode}

@@ -1,5 +1,5 @@
 -- Variables: what commands set and quantities are read from, by the builtins that name them (The TeXbook, chapters 15 and 24).
-use Rattle.std.specs.Prelude.{ℕ, ℤ, pos, negsuc, Bool, nat_le, ◌==◌, if◌then◌else◌, [], ◌∷◌, List, Option, Some, None}
+use Rattle.std.specs.Prelude.{ℕ, ℤ, pos, negsuc, Bool, nat_le, ◌==◌, if◌then◌else◌, [], List, Option, Some, None}
 use lib.Utf8.{scalar}
 use Rattle.texml_token.specs.Token.{Token}
 use Rattle.texml_token.specs.declared.fault_code.TheConstants.{BAD_CODE}

@@ -2,7 +2,6 @@ use Rattle.std.proofs.Common.{[]}
 use Rattle.texml_expand.specs.Laws.{Decides}
 use Rattle.texml_expand.specs.Quantities.{int_text, dimension_text, glue_text, keyword_text, read_index}
 use Rattle.texml_expand.specs.Expand.{level, fetched, expand_token}
-use Rattle.texml_expand.specs.State.{State}
 use Rattle.texml_expand.proofs.Lawful.{By, Lawful, lawful_scan}
 use Rattle.texml_expand.proofs.Looking.{lawful_index}
 use Rattle.texml_expand.proofs.Public.{lawful_fetched, lawful_expand_token}

@@ -1,4 +1,4 @@
-use Rattle.std.proofs.Common.{◌≡◌, ◌++◌, FitsSigned, w32, to_z, of_z, int_lt, pos, false, unsigned_abs, ap, sym, subst, ◌∙◌, rules}
+use Rattle.std.proofs.Common.{◌≡◌, ◌++◌, FitsSigned, w32, int_lt, pos, false, unsigned_abs, ap, subst, ◌∙◌, rules}
 use Rattle.std.proofs.lemmas.Int.{to_z-of_z}
 use Rattle.texml_expand.specs.Printed.{roman}
 use Rattle.texml_expand.proofs.Printing.{written, roman_of}

@@ -1,4 +1,4 @@
-use Rattle.std.proofs.Common.{◌≡◌, ℕ, map, take}
+use Rattle.std.proofs.Common.{◌≡◌, ℕ, take}
 use Rattle.texml_token.specs.Numbers.{Table, tokens_at, TokensWithin}
 use Rattle.texml_expand.specs.Printed.{printed_tokens}
 use Rattle.texml_expand.proofs.printed.tokens_of.Given as goal

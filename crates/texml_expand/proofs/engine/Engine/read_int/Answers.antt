@@ -1,4 +1,3 @@
-use Rattle.std.proofs.Common.{[]}
 use Rattle.texml_fixed.specs.Arithmetic.{IsWithin}
 use Rattle.texml_scan.specs.Number.{number}
 use Rattle.texml_scan.proofs.Bounds.{number_gives}
