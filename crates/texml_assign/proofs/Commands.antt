@@ -1,34 +1,34 @@
 -- Each command has one answer, and leaves no more to be read.
-use Rattle.std.proofs.Common.{◌≡◌, true, false, if◌then◌else◌, [], length, Option, Some, None, refl, ap, arith}
-use Rattle.std.specs.Option.{option_to_list}
+use Rattle.std.proofs.Common.{◌≡◌, ℕ, true, false, if◌then◌else◌, [], length, Option, Some, None, refl, ap, arith}
+use Rattle.std.specs.Option.{option_map, option_to_list}
 use Rattle.texml_token.specs.Token.{Token}
 use Rattle.texml_token.specs.declared.fault_code.TheConstants.{BAD_PREFIX}
 use Rattle.texml_scope.specs.declared.values.KindOf.TheVariants.{Begin}
 use Rattle.texml_expand.specs.State.{State, give, fail, change}
-use Rattle.texml_expand.specs.Expand.{back, level}
+use Rattle.texml_expand.specs.Expand.{back, fetch}
 use Rattle.texml_expand.specs.Contract.{Lower}
 use Rattle.texml_expand.specs.Rest.{Tok}
 use Rattle.texml_expand.proofs.Items.{size-cons}
-use Rattle.texml_expand.proofs.Falls.{leads_weaker, lower_none, lower_then, count, level_leads}
-use Rattle.texml_expand.proofs.Order.{fetches_mono}
-use Rattle.texml_expand.proofs.Total.{depth, decides}
+use Rattle.texml_expand.proofs.Leading.{lower_none}
 use Rattle.texml_assign.specs.declared.table.Prefix.{Prefix as PrefixWord}
 use Rattle.texml_assign.specs.declared.table.Command.{Command as CommandWord}
-use Rattle.texml_assign.specs.declared.table.Command.TheVariants.{Relax, Def, Gdef, Let, BeginGroup, EndGroup, AfterGroup, AfterAssignment, NewCommand}
+use Rattle.texml_assign.specs.declared.table.Command.TheVariants.{Relax, Def, Gdef, Let, BeginGroup, EndGroup, AfterGroup, AfterAssignment, NewCommand, Assign, Short, Arithmetic}
 use Rattle.texml_assign.specs.declared.table.Executable.{Executable}
 use Rattle.texml_assign.specs.declared.table.Executable.TheVariants.{Prefix, Command}
 use Rattle.texml_assign.specs.declared.table.Prefixes.{Prefixes}
 use Rattle.texml_assign.specs.declared.executing.Executed.TheVariants.{Yes, NotMine}
 use Rattle.texml_assign.specs.Table.{executable_of, is_assignment, no_prefixes, with_prefix, may_follow}
 use Rattle.texml_assign.specs.Loop.{On, Over}
-use Rattle.texml_assign.specs.Meaning.{means}
-use Rattle.texml_assign.specs.Operands.{is_space, meant, with_token}
+use Rattle.texml_expand.specs.Take.{means}
+use Rattle.texml_expand.specs.Arguments.{means_space}
+use Rattle.texml_assign.specs.Operands.{meant, with_token}
 use Rattle.texml_assign.specs.Define.{defined}
 use Rattle.texml_assign.specs.Sets.{begin_kind, end_kind, read_after, keep, keep_token, put_kept_of, put_kept}
 use Rattle.texml_assign.specs.Execute.{row, behind, perform, followed, prefix_word, prefix_turn, prefix_loop, prefixed, execute_prefixed, execute_word, execute_by, execute}
 use Rattle.texml_assign.proofs.Readings.{Lawful, Plain, lawful_plain, lawful_by, lawful_then, plain_by, plain_give, plain_fail, plain_change, plain_if}
 use Rattle.texml_assign.proofs.Looping.{LawfulLoop, lawful_loop}
 pub use Rattle.texml_assign.proofs.Parts.{plain_after_assignment, body_taken, head_taken, key_taken, lawful_assigned, lawful_key_taken, lawful_meant, lawful_spaces, meant_behind, plain_absorb, plain_after_group, plain_assign, plain_begin, plain_behind_equals, plain_behind_sign, plain_behind_space, plain_body_said, plain_by_least, plain_defined, plain_end, plain_head_taken, plain_key_of, plain_look_ahead, plain_meaning_now, plain_meant_behind, plain_needed, plain_needed_body, plain_next, plain_next_body, plain_next_key, plain_parameter_text, plain_space_turn, plain_take, plain_token_or_end, plain_with_token, same_room, space_is, spaces_laws, text_taken, token_takes}
+use Rattle.texml_assign.proofs.Quantities.{lawful_fetch, fetch_leads, lawful_assignment, lawful_short_name, lawful_arithmetic}
 use Rattle.texml_assign.proofs.NewCommands.{lawful_new_command}
 
 -- Rows
@@ -55,6 +55,9 @@ lawful_row p EndGroup = lawful_plain (end_kind Begin) (plain_end Begin)
 lawful_row p AfterGroup = lawful_plain (with_token read_after) plain_after_group
 lawful_row p AfterAssignment = lawful_plain (with_token keep_token) plain_after_assignment
 lawful_row p (NewCommand naming) = lawful_new_command naming
+lawful_row p (Assign target) = lawful_assignment p.global target
+lawful_row p (Short what) = lawful_short_name p.global what
+lawful_row p (Arithmetic what) = lawful_arithmetic p.global what
 
 pub lawful_perform : (p : Prefixes) (c : CommandWord) → Lawful (perform p c)
 lawful_perform p c = lawful_then (row p c) (λ _ n. behind c) (lawful_row p c) (λ _. lawful_plain (behind c) (plain_behind c))
@@ -72,20 +75,13 @@ plain_word p (Some (Command c)) = plain_followed p c
 
 pub plain_prefix_turn : (p : Prefixes) (t : Token) → Plain (λ s. prefix_turn p t 0 s)
 plain_prefix_turn p t =
-    plain_by (λ s. means s.world t) (λ m. if is_space m then give (On p) else prefix_word p (executable_of m))
-    (λ m. plain_if (is_space m) (give (On p)) (prefix_word p (executable_of m)) (plain_give _) (plain_word p (executable_of m)))
-
-pub lawful_fetch : Lawful (λ n. (level n).fetch)
-lawful_fetch = record {
-  mono = fetches_mono;
-  settles = λ s w. record { at = depth s; decided = decides s w };
-  falls = λ n s. leads_weaker (λ o t. Lower (count o) s t) (λ o t. Lower 0 s t) ((level n).fetch s) (λ o t g. lower_then (count o) 0 0 s t t g (lower_none t) (omega arith)) (level_leads n s);
-}
+    plain_by (λ s. means s.world t) (λ m. if means_space m then give (On p) else prefix_word p (executable_of m))
+    (λ m. plain_if (means_space m) (give (On p)) (prefix_word p (executable_of m)) (plain_give _) (plain_word p (executable_of m)))
 
 pub prefix_laws : LawfulLoop prefix_loop
 prefix_laws = record {
   source = lawful_fetch;
-  lowers = level_leads;
+  lowers = fetch_leads;
   turn = λ p t. lawful_plain (λ s. prefix_turn p t 0 s) (plain_prefix_turn p t);
   end = λ p. plain_fail _ _ _;
 }

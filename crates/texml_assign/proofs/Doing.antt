@@ -2,7 +2,6 @@
 use Rattle.std.proofs.Common.{◌≡◌, ℕ, [], Option, None, Some, Result, Ok, Err, refl, sym, ap, ◌∙◌, subst, arith}
 use Rattle.std.specs.Result.{OnOk}
 use Rattle.texml_token.proofs.Table.{extends_refl, extends_trans}
-use Rattle.texml_token.specs.Token.{Token}
 use Rattle.texml_watch.specs.declared.record.Record.{Record}
 use Rattle.texml_expand.specs.declared.stop.Stop.{Stop}
 use Rattle.texml_expand.specs.declared.stop.Stop.TheVariants as stop
@@ -12,7 +11,8 @@ use Rattle.texml_expand.specs.Contract.{Outside, outside, Stops, ReadsBecause, T
 use Rattle.texml_expand.specs.Held.{Held, state_of, ok_at, Sound, Kept, Progress, IsAtLimit}
 use Rattle.texml_expand.proofs.Fronts.{kept_then, kept_itself}
 use Rattle.texml_expand.proofs.Taking.{silent_fault}
-use Rattle.texml_assign.specs.Loop.{ByDepth, Next, On, Over, Loop, loops}
+use Rattle.texml_assign.specs.Loop.{Next, On, Over, LoopOver, loops}
+use Rattle.texml_expand.specs.Expand.{ByDepth}
 use Rattle.texml_assign.specs.Advance.{Advances}
 use Rattle.texml_assign.specs.Doing.{Does}
 use Rattle.texml_assign.proofs.Readings.{IsUnlimited, Lawful, Sure, sure, Plain, chained, follows_then, follows_stop, follows_silent, follows_lower, follows_out}
@@ -131,7 +131,7 @@ module _ {T : Type 0} (hear part : T → Record → T → Type 0) where
   pub does_stop_sure : {A B : Type 0} (r : ByDepth A) (f : A → ByDepth B) → Lawful r → ((v : A) → Sure (f v)) → (e : Stop) (old new : Held) (x y : Outside) (a b : T) → Sound old
       → Does hear part r (Err e) old new x y a b → Does hear part (chained r f) (Err e) old new x y a b
   does_stop_sure {A = A} {B = B} r f l k e old new x y a b sound g = record {
-    follows = follows_stop hear part r f l k e (state_of old) (state_of new) a b sound.budget g.follows;
+    follows = follows_stop hear part r f l k e (state_of old) (state_of new) a b g.follows;
     stops = stops_as A B e x y new.stop g.stops;
     limit = limit_as A B e new g.limit;
     keeps = tt;
@@ -202,7 +202,7 @@ module _ {T : Type 0} (hear part : T → Record → T → Type 0) where
   pub does_out : {A : Type 0} (r : ByDepth A) → Lawful r → (e : Stop) (old new : Held) (x : Outside) (a : T) → Sound old → e ≡ stop.NoMemory → new ≡ record old { stop = Some stop.NoMemory } → Does hear part r (Err e) old new x x a a
   does_out {A = A} r l e old new x a sound is e' =
       subst (λ (s : Stop). Does hear part r (Err s) old new x x a a) (sym is) (record {
-        follows = follows_out hear part r l (state_of old) (state_of new) a sound.budget;
+        follows = follows_out hear part r l (state_of old) (state_of new) a;
         stops = record { kept = ap (λ (h : Held). h.stop) e'; reads = refl; tells = refl };
         limit = tt;
         keeps = tt;
@@ -229,7 +229,7 @@ module _ {T : Type 0} (hear part : T → Record → T → Type 0) where
   does_lower r l (Err e) old new x y a b d = tt
 
   -- a loop in the code
-  module _ {S A : Type 0} (loop : Loop S A) (laws : LawfulLoop loop) where
+  module _ {X S A : Type 0} (loop : LoopOver X S A) (laws : LawfulLoop loop) where
     -- it runs, it is sound, nothing has failed, and what follows the loop from now on follows the whole loop
     pub record Goes (first : S) (old : Held) (x : Outside) (a : T) (seen : S) (now : Held) (y : Outside) (b : T) : Type 0 where
       pub running : now.stop ≡ None
@@ -256,8 +256,8 @@ module _ {T : Type 0} (hear part : T → Record → T → Type 0) where
     pub goes_stops : (e : Stop) (first seen : S) (old now new : Held) (x y z : Outside) (a b c : T) → Goes first old x a seen now y b → Does hear part loop.source (Err e) now new y z b c → Does hear part (loops loop first) (Err e) old new x z a c
     goes_stops e first seen old now new x y z a b c g d =
         ends (Err e) first old now new x y z a b c seen g
-        (loop_stops loop laws hear part e first seen (state_of old) (state_of now) (state_of new) a b c g.kept.sound.budget g.onward d.follows)
-        (stops_as (Option Token) A e y z new.stop d.stops) (limit_as (Option Token) A e new d.limit) tt d.advances
+        (loop_stops loop laws hear part e first seen (state_of old) (state_of now) (state_of new) a b c g.onward d.follows)
+        (stops_as (Option X) A e y z new.stop d.stops) (limit_as (Option X) A e new d.limit) tt d.advances
 
     -- the end of what is to be read
     pub goes_ends : (result : Result A Stop) (first seen : S) (old now mid new : Held) (x y z w : Outside) (a b c d : T) → Goes first old x a seen now y b → Does hear part loop.source (Ok None) now mid y z b c
@@ -268,15 +268,15 @@ module _ {T : Type 0} (hear part : T → Record → T → Type 0) where
         (stops_behind None result y z w mid.stop new.stop s.stops e.stops) e.limit (keeps_then result now mid new s.keeps e.keeps) (advances_then now mid new s.advances e.advances)
 
     -- a turn that stops
-    pub goes_turn_stops : (t : Token) (e : Stop) (first seen : S) (old now mid new : Held) (x y z w : Outside) (a b c d : T) → Goes first old x a seen now y b → Does hear part loop.source (Ok (Some t)) now mid y z b c
+    pub goes_turn_stops : (t : X) (e : Stop) (first seen : S) (old now mid new : Held) (x y z w : Outside) (a b c d : T) → Goes first old x a seen now y b → Does hear part loop.source (Ok (Some t)) now mid y z b c
         → Does hear part (loop.turn seen t) (Err e) mid new z w c d → Does hear part (loops loop first) (Err e) old new x w a d
     goes_turn_stops t e first seen old now mid new x y z w a b c d g s h =
         ends (Err e) first old now new x y w a b d seen g
-        (turn_stops loop laws hear part t e first seen (state_of old) (state_of now) (state_of mid) (state_of new) a b c d s.keeps.sound.budget g.onward s.follows h.follows)
+        (turn_stops loop laws hear part t e first seen (state_of old) (state_of now) (state_of mid) (state_of new) a b c d g.onward s.follows h.follows)
         (stops_behind (Some t) (Err e) y z w mid.stop new.stop s.stops (stops_as (Next S A) A e z w new.stop h.stops)) (limit_as (Next S A) A e new h.limit) tt (advances_then now mid new s.advances h.advances)
 
     -- a turn behind which it is over
-    pub goes_over : (t : Token) (v : A) (first seen : S) (old now mid new : Held) (x y z w : Outside) (a b c d : T) → Goes first old x a seen now y b → Does hear part loop.source (Ok (Some t)) now mid y z b c
+    pub goes_over : (t : X) (v : A) (first seen : S) (old now mid new : Held) (x y z w : Outside) (a b c d : T) → Goes first old x a seen now y b → Does hear part loop.source (Ok (Some t)) now mid y z b c
         → Does hear part (loop.turn seen t) (Ok (Over v)) mid new z w c d → Does hear part (loops loop first) (Ok v) old new x w a d
     goes_over t v first seen old now mid new x y z w a b c d g s h =
         let s' = stops_behind (Some t) (Ok (Over v)) y z w mid.stop new.stop s.stops h.stops in
@@ -285,18 +285,18 @@ module _ {T : Type 0} (hear part : T → Record → T → Type 0) where
         (record { kept = s'.kept; reads = s'.reads; tells = s'.tells }) tt (kept_then now mid new s.keeps h.keeps) (advances_then now mid new s.advances h.advances)
 
     -- want of memory behind a turn
-    pub goes_out : (t : Token) (next : Next S A) (e : Stop) (first seen : S) (old now mid far new : Held) (x y z w : Outside) (a b c d : T) → Goes first old x a seen now y b → Does hear part loop.source (Ok (Some t)) now mid y z b c
+    pub goes_out : (t : X) (next : Next S A) (e : Stop) (first seen : S) (old now mid far new : Held) (x y z w : Outside) (a b c d : T) → Goes first old x a seen now y b → Does hear part loop.source (Ok (Some t)) now mid y z b c
         → Does hear part (loop.turn seen t) (Ok next) mid far z w c d → e ≡ stop.NoMemory → new ≡ record far { stop = Some stop.NoMemory } → Does hear part (loops loop first) (Err e) old new x w a d
     goes_out t next e first seen old now mid far new x y z w a b c d g s h is e' =
         let s' = stops_behind (Some t) (Ok next) y z w mid.stop far.stop s.stops h.stops in
         subst (λ (k : Stop). Does hear part (loops loop first) (Err k) old new x w a d) (sym is)
         (ends (Err stop.NoMemory) first old now new x y w a b d seen g
-        (turn_out loop laws hear part t next first seen (state_of old) (state_of now) (state_of mid) (state_of far) (state_of new) a b c d h.keeps.sound.budget g.onward s.follows h.follows)
+        (turn_out loop laws hear part t next first seen (state_of old) (state_of now) (state_of mid) (state_of far) (state_of new) a b c d g.onward s.follows h.follows)
         (record { kept = ap (λ (h : Held). h.stop) e'; reads = s'.reads; tells = s'.tells }) tt tt
         (advances_then now far new (advances_then now mid far s.advances h.advances) (advances_stopped far new (Some stop.NoMemory) e')))
 
     -- a turn behind which it goes on
-    pub goes_on : (t : Token) (first seen more : S) (old now mid new : Held) (x y z w : Outside) (a b c d : T) → Goes first old x a seen now y b → Does hear part loop.source (Ok (Some t)) now mid y z b c
+    pub goes_on : (t : X) (first seen more : S) (old now mid new : Held) (x y z w : Outside) (a b c d : T) → Goes first old x a seen now y b → Does hear part loop.source (Ok (Some t)) now mid y z b c
         → Does hear part (loop.turn seen t) (Ok (On more)) mid new z w c d → Goes first old x a more new w d
     goes_on t first seen more old now mid new x y z w a b c d g s h =
         let s' = stops_behind (Some t) (Ok (On more)) y z w mid.stop new.stop s.stops h.stops in

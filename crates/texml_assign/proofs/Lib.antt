@@ -7,4 +7,5 @@ pub mod Commands
 pub mod Worlds
 pub mod ParameterTexts
 pub mod Macros
+pub mod Quantities
 mod Rows

@@ -1,40 +1,40 @@
 -- A loop over tokens is lawful where its parts are, and each token leaves less to be read.
 use Rattle.std.proofs.Common.{◌-◌, ◌<◌, ◌≤◌, ℕ, zero, suc, Option, Some, None, Result, Ok, Err, refl, sym, arith, inl, inr, eq-or-lt_of_le}
-use Rattle.texml_token.specs.Token.{Token}
 use Rattle.texml_watch.specs.declared.record.Record.{Record}
 use Rattle.texml_expand.specs.declared.stop.Stop.{Stop}
 use Rattle.texml_expand.specs.declared.stop.Stop.TheVariants as stop
 use Rattle.texml_expand.specs.State.{State, room, Reading, give}
 use Rattle.texml_expand.specs.Contract.{Lower}
 use Rattle.texml_expand.specs.Hearing.{Follows}
-use Rattle.texml_expand.proofs.Order.{IsWithin, Grows, grows_refl, chain_grows, Mono}
-use Rattle.texml_expand.proofs.Falls.{Leads, leads_at, lower_none, lower_then, count}
-use Rattle.texml_assign.specs.Loop.{ByDepth, Next, On, Over, Loop, looped, turned, loops}
-use Rattle.texml_assign.proofs.Readings.{Settles, settles_chain, Lawful, sure, Plain, chained, lawful_plain, plain_give, falls_then, follows_then, follows_stop, follows_silent, follows_out}
+use Rattle.texml_expand.proofs.Readings.{Grows, grows_refl, chain_grows, Mono, Settles, settles_chain}
+use Rattle.texml_expand.proofs.Leading.{Leads, leads_at, lower_none, lower_then, count}
+use Rattle.texml_assign.specs.Loop.{Next, On, Over, LoopOver, looped, turned, loops}
+use Rattle.texml_expand.specs.Expand.{ByDepth}
+use Rattle.texml_assign.proofs.Readings.{Lawful, sure, Plain, chained, lawful_plain, plain_give, falls_then, follows_then, follows_stop, follows_silent, follows_out}
 
 -- the parts of a loop are lawful, and the tokens that come lower what is left
-pub record LawfulLoop {S A : Type 0} (loop : Loop S A) : Type 0 where
+pub record LawfulLoop {X S A : Type 0} (loop : LoopOver X S A) : Type 0 where
   pub source : Lawful loop.source
   pub lowers : (n : ℕ) (s : State) → Leads (λ o t. Lower (count o) s t) (loop.source n s)
-  pub turn : (seen : S) (t : Token) → Lawful (loop.turn seen t)
+  pub turn : (seen : S) (t : X) → Lawful (loop.turn seen t)
   pub end : (seen : S) → Plain (loop.end seen)
 
 looped_grows : {S A : Type 0} (more more' : S → Reading A) → ((seen : S) (s : State) → Grows (more seen s) (more' seen s)) → (next : Next S A) (s : State) → Grows (looped more next s) (looped more' next s)
 looped_grows more more' g (On seen) s = g seen s
 looped_grows more more' g (Over a) s = grows_refl _
 
-module _ {S A : Type 0} (loop : Loop S A) (laws : LawfulLoop loop) where
+module _ {X S A : Type 0} (loop : LoopOver X S A) (laws : LawfulLoop loop) where
   -- the loop at a depth, and what follows a token there
   abbrev at_depth : ℕ → S → Reading A
   at_depth n seen = loops loop seen n
 
-  abbrev token_at_depth : S → Option Token → ByDepth A
+  abbrev token_at_depth : S → Option X → ByDepth A
   token_at_depth seen o n = turned loop (at_depth n) n seen o
 
   abbrev next_at_depth : Next S A → ByDepth A
   next_at_depth next n = looped (at_depth n) next
 
-  turned_grows : (n m : ℕ) → n ≤ m → ((seen : S) (s : State) → Grows (at_depth n seen s) (at_depth m seen s)) → (seen : S) (o : Option Token) (s : State) → Grows (token_at_depth seen o n s) (token_at_depth seen o m s)
+  turned_grows : (n m : ℕ) → n ≤ m → ((seen : S) (s : State) → Grows (at_depth n seen s) (at_depth m seen s)) → (seen : S) (o : Option X) (s : State) → Grows (token_at_depth seen o n s) (token_at_depth seen o m s)
   turned_grows n m le g seen None s = grows_refl _
   turned_grows n m le g seen (Some t) s = chain_grows (((laws.turn seen t).mono s).grows n m le) (looped_grows (at_depth n) (at_depth m) g)
 
@@ -48,7 +48,7 @@ module _ {S A : Type 0} (loop : Loop S A) (laws : LawfulLoop loop) where
   loop_mono : (seen : S) (s : State) → Mono (λ n. at_depth n seen s)
   loop_mono seen s = record { grows = λ n m le. loop_grows n m le seen s }
 
-  token_mono : (seen : S) (o : Option Token) (s : State) → Mono (λ n. token_at_depth seen o n s)
+  token_mono : (seen : S) (o : Option X) (s : State) → Mono (λ n. token_at_depth seen o n s)
   token_mono seen o s = record { grows = λ n m le. turned_grows n m le (loop_grows n m le) seen o s }
 
   next_mono : (next : Next S A) (s : State) → Mono (λ n. next_at_depth next n s)
@@ -59,7 +59,7 @@ module _ {S A : Type 0} (loop : Loop S A) (laws : LawfulLoop loop) where
   next_falls n h (On seen) s = h seen s
   next_falls n h (Over a) s = lower_none s
 
-  token_falls : (n : ℕ) → ((seen : S) (s : State) → Leads (λ v t. Lower 0 s t) (at_depth n seen s)) → (seen : S) (o : Option Token) (s : State) → Leads (λ v t. Lower 0 s t) (token_at_depth seen o n s)
+  token_falls : (n : ℕ) → ((seen : S) (s : State) → Leads (λ v t. Lower 0 s t) (at_depth n seen s)) → (seen : S) (o : Option X) (s : State) → Leads (λ v t. Lower 0 s t) (token_at_depth seen o n s)
   token_falls n h seen None s = (laws.end seen).falls s
   token_falls n h seen (Some t) s = falls_then (loop.turn seen t n s) (looped (at_depth n)) s ((laws.turn seen t).falls n s) (next_falls n h)
 
@@ -72,11 +72,11 @@ module _ {S A : Type 0} (loop : Loop S A) (laws : LawfulLoop loop) where
   next_settles (On seen) s t low later = later seen t low
   next_settles (Over a) s t low later = record { at = 0; decided = tt }
 
-  token_settles : (seen : S) (o : Option Token) (s t : State) → IsWithin t → Lower (count o) s t → ((seen : S) (u : State) → Lower 1 s u → Settles (λ n. at_depth n seen u)) → Settles (λ n. token_at_depth seen o n t)
-  token_settles seen None s t w low later = record { at = 0; decided = (laws.end seen).decided t }
-  token_settles seen (Some k) s t w low later =
+  token_settles : (seen : S) (o : Option X) (s t : State) → Lower (count o) s t → ((seen : S) (u : State) → Lower 1 s u → Settles (λ n. at_depth n seen u)) → Settles (λ n. token_at_depth seen o n t)
+  token_settles seen None s t low later = record { at = 0; decided = (laws.end seen).decided t }
+  token_settles seen (Some k) s t low later =
       let l = laws.turn seen k in
-      let h = l.settles t w in
+      let h = l.settles t in
       settles_chain (λ n. loop.turn seen k n t) (λ n. looped (at_depth n)) (l.mono t) next_mono h
       (λ next u gains e. next_settles next s u (lower_then 1 0 1 s t u low (leads_at (λ v u. Lower 0 t u) (loop.turn seen k h.at t) next u gains e (l.falls h.at t)) (omega arith)) later)
 
@@ -87,45 +87,45 @@ module _ {S A : Type 0} (loop : Loop S A) (laws : LawfulLoop loop) where
   left : State → ℕ
   left s = s.limit - s.begun
 
-  turn_settles : (e z : ℕ) → ((seen : S) (s : State) → IsWithin s → left s < e → Settles (λ n. at_depth n seen s)) → ((seen : S) (s : State) → IsWithin s → left s ≤ e → room s < z → Settles (λ n. at_depth n seen s))
-      → (seen : S) (s : State) → IsWithin s → left s ≤ e → room s ≤ z → Settles (λ n. at_depth n seen s)
+  turn_settles : (e z : ℕ) → ((seen : S) (s : State) → left s < e → Settles (λ n. at_depth n seen s)) → ((seen : S) (s : State) → left s ≤ e → room s < z → Settles (λ n. at_depth n seen s))
+      → (seen : S) (s : State) → left s ≤ e → room s ≤ z → Settles (λ n. at_depth n seen s)
   unfolding left
-  turn_settles e z below less seen s w h k =
-      let source = laws.source.settles s w in
+  turn_settles e z below less seen s h k =
+      let source = laws.source.settles s in
       step_settles seen s
       (settles_chain (λ n. loop.source n s) (λ n. turned loop (at_depth n) n seen) (laws.source.mono s) (token_mono seen) source
       (λ o t gains is.
       let low = leads_at (λ o t. Lower (count o) s t) (loop.source source.at s) o t gains is (laws.lowers source.at s) in
-      token_settles seen o s t (low.within w) low
+      token_settles seen o s t low
       (λ seen u l. elim (eq-or-lt_of_le l.begun) [
-        | inl same ↦ (let size = l.size (sym same) in let limit = l.limit in less seen u (l.within w) (omega arith) (omega arith))
-        | inr more ↦ (let under = l.within w in let limit = l.limit in below seen u under (omega arith))
+        | inl same ↦ (let size = l.size (sym same) in let limit = l.limit in less seen u (omega arith) (omega arith))
+        | inr more ↦ (let under = l.within more in let limit = l.limit in below seen u (omega arith))
       ])))
 
-  within : (e : ℕ) → ((seen : S) (s : State) → IsWithin s → left s < e → Settles (λ n. at_depth n seen s)) → (z : ℕ) (seen : S) (s : State) → IsWithin s → left s ≤ e → room s ≤ z → Settles (λ n. at_depth n seen s)
-  within e below zero = turn_settles e 0 below (λ seen s w h k. absurd (omega arith))
-  within e below (suc z) = turn_settles e (suc z) below (λ seen s w h k. within e below z seen s w h (omega arith))
+  within : (e : ℕ) → ((seen : S) (s : State) → left s < e → Settles (λ n. at_depth n seen s)) → (z : ℕ) (seen : S) (s : State) → left s ≤ e → room s ≤ z → Settles (λ n. at_depth n seen s)
+  within e below zero = turn_settles e 0 below (λ seen s h k. absurd (omega arith))
+  within e below (suc z) = turn_settles e (suc z) below (λ seen s h k. within e below z seen s h (omega arith))
 
-  all_settle : (e : ℕ) (seen : S) (s : State) → IsWithin s → left s < e → Settles (λ n. at_depth n seen s)
-  all_settle zero seen s w h = absurd (omega arith)
-  all_settle (suc e) seen s w h = within e (all_settle e) (room s) seen s w (omega arith) (omega arith)
+  all_settle : (e : ℕ) (seen : S) (s : State) → left s < e → Settles (λ n. at_depth n seen s)
+  all_settle zero seen s h = absurd (omega arith)
+  all_settle (suc e) seen s h = within e (all_settle e) (room s) seen s (omega arith) (omega arith)
 
   pub lawful_loop : (seen : S) → Lawful (loops loop seen)
-  lawful_loop seen = record { mono = loop_mono seen; settles = λ s w. all_settle (suc (left s)) seen s w (omega arith); falls = λ n s. loop_falls n seen s }
+  lawful_loop seen = record { mono = loop_mono seen; settles = λ s. all_settle (suc (left s)) seen s (omega arith); falls = λ n s. loop_falls n seen s }
 
   lawful_next : (next : Next S A) → Lawful (next_at_depth next)
   lawful_next (On seen) = lawful_loop seen
   lawful_next (Over a) = lawful_plain (give a) (plain_give a)
 
-  token_settled : (seen : S) (o : Option Token) (s : State) → IsWithin s → Settles (λ n. token_at_depth seen o n s)
-  token_settled seen None s w = record { at = 0; decided = (laws.end seen).decided s }
-  token_settled seen (Some t) s w =
+  token_settled : (seen : S) (o : Option X) (s : State) → Settles (λ n. token_at_depth seen o n s)
+  token_settled seen None s = record { at = 0; decided = (laws.end seen).decided s }
+  token_settled seen (Some t) s =
       let l = laws.turn seen t in
-      let h = l.settles s w in
+      let h = l.settles s in
       settles_chain (λ n. loop.turn seen t n s) (λ n. looped (at_depth n)) (l.mono s) next_mono h
-      (λ next u gains e. (lawful_next next).settles u ((leads_at (λ v u. Lower 0 s u) (loop.turn seen t h.at s) next u gains e (l.falls h.at s)).within w))
+      (λ next u gains e. (lawful_next next).settles u)
 
-  lawful_token : (seen : S) (o : Option Token) → Lawful (token_at_depth seen o)
+  lawful_token : (seen : S) (o : Option X) → Lawful (token_at_depth seen o)
   lawful_token seen o = record { mono = token_mono seen o; settles = token_settled seen o; falls = λ n s. token_falls n (loop_falls n) seen o s }
 
   -- the loop in the code, turn by turn
@@ -141,45 +141,45 @@ module _ {S A : Type 0} (loop : Loop S A) (laws : LawfulLoop loop) where
     pub onward_start : (seen : S) (s : State) (a : T) → LoopOnward seen s a seen s a
     onward_start seen s a = record { on = λ r new c k. k }
 
-    by_source : (seen : S) (o : Option Token) (r : Result A Stop) (now mid new : State) (b c d : T) → Follows hear part (λ n. loop.source n now) (Ok o) mid b c → Follows hear part (λ n. token_at_depth seen o n mid) r new c d
+    by_source : (seen : S) (o : Option X) (r : Result A Stop) (now mid new : State) (b c d : T) → Follows hear part (λ n. loop.source n now) (Ok o) mid b c → Follows hear part (λ n. token_at_depth seen o n mid) r new c d
         → Follows hear part (λ n. loops loop seen n now) r new b d
     by_source seen o r now mid new b c d g k = by_step seen r now new b d (follows_then hear part loop.source (token_at_depth seen) laws.source (λ o. sure (token_at_depth seen o) (lawful_token seen o)) o r now mid new b c d g k)
 
     -- no token can be had
-    pub loop_stops : (e : Stop) (first seen : S) (old now new : State) (a b c : T) → IsWithin now → LoopOnward first old a seen now b → Follows hear part (λ n. loop.source n now) (Err e) new b c
+    pub loop_stops : (e : Stop) (first seen : S) (old now new : State) (a b c : T) → LoopOnward first old a seen now b → Follows hear part (λ n. loop.source n now) (Err e) new b c
         → Follows hear part (λ n. loops loop first n old) (Err e) new a c
-    loop_stops e first seen old now new a b c w o g =
-        o.on (Err e) new c (by_step seen (Err e) now new b c (follows_stop hear part loop.source (token_at_depth seen) laws.source (λ o. sure (token_at_depth seen o) (lawful_token seen o)) e now new b c w g))
+    loop_stops e first seen old now new a b c o g =
+        o.on (Err e) new c (by_step seen (Err e) now new b c (follows_stop hear part loop.source (token_at_depth seen) laws.source (λ o. sure (token_at_depth seen o) (lawful_token seen o)) e now new b c g))
 
     -- the end of what is to be read
     pub loop_ends : (r : Result A Stop) (first seen : S) (old now mid new : State) (a b c d : T) → LoopOnward first old a seen now b → Follows hear part (λ n. loop.source n now) (Ok None) mid b c
         → Follows hear part (λ n. loop.end seen mid) r new c d → Follows hear part (λ n. loops loop first n old) r new a d
     loop_ends r first seen old now mid new a b c d o g h = o.on r new d (by_source seen None r now mid new b c d g h)
 
-    by_turn : (t : Token) (next : Next S A) (r : Result A Stop) (seen : S) (now mid far new : State) (b c d e : T) → Follows hear part (λ n. loop.source n now) (Ok (Some t)) mid b c → Follows hear part (λ n. loop.turn seen t n mid) (Ok next) far c d
+    by_turn : (t : X) (next : Next S A) (r : Result A Stop) (seen : S) (now mid far new : State) (b c d e : T) → Follows hear part (λ n. loop.source n now) (Ok (Some t)) mid b c → Follows hear part (λ n. loop.turn seen t n mid) (Ok next) far c d
         → Follows hear part (λ n. next_at_depth next n far) r new d e → Follows hear part (λ n. loops loop seen n now) r new b e
     by_turn t next r seen now mid far new b c d e g h k =
         by_source seen (Some t) r now mid new b c e g (follows_then hear part (loop.turn seen t) next_at_depth (laws.turn seen t) (λ x. sure (next_at_depth x) (lawful_next x)) next r mid far new c d e h k)
 
     -- a turn that stops
-    pub turn_stops : (t : Token) (e : Stop) (first seen : S) (old now mid new : State) (a b c d : T) → IsWithin mid → LoopOnward first old a seen now b → Follows hear part (λ n. loop.source n now) (Ok (Some t)) mid b c
+    pub turn_stops : (t : X) (e : Stop) (first seen : S) (old now mid new : State) (a b c d : T) → LoopOnward first old a seen now b → Follows hear part (λ n. loop.source n now) (Ok (Some t)) mid b c
         → Follows hear part (λ n. loop.turn seen t n mid) (Err e) new c d → Follows hear part (λ n. loops loop first n old) (Err e) new a d
-    turn_stops t e first seen old now mid new a b c d w o g h =
-        o.on (Err e) new d (by_source seen (Some t) (Err e) now mid new b c d g (follows_stop hear part (loop.turn seen t) next_at_depth (laws.turn seen t) (λ x. sure (next_at_depth x) (lawful_next x)) e mid new c d w h))
+    turn_stops t e first seen old now mid new a b c d o g h =
+        o.on (Err e) new d (by_source seen (Some t) (Err e) now mid new b c d g (follows_stop hear part (loop.turn seen t) next_at_depth (laws.turn seen t) (λ x. sure (next_at_depth x) (lawful_next x)) e mid new c d h))
 
     -- a turn behind which it is over
-    pub turn_over : (t : Token) (v : A) (first seen : S) (old now mid new : State) (a b c d : T) → LoopOnward first old a seen now b → Follows hear part (λ n. loop.source n now) (Ok (Some t)) mid b c
+    pub turn_over : (t : X) (v : A) (first seen : S) (old now mid new : State) (a b c d : T) → LoopOnward first old a seen now b → Follows hear part (λ n. loop.source n now) (Ok (Some t)) mid b c
         → Follows hear part (λ n. loop.turn seen t n mid) (Ok (Over v)) new c d → Follows hear part (λ n. loops loop first n old) (Ok v) new a d
     turn_over t v first seen old now mid new a b c d o g h =
         o.on (Ok v) new d (by_turn t (Over v) (Ok v) seen now mid new new b c d d g h (follows_silent hear part (give v) (plain_give v).decided (Ok v) new new d refl))
 
     -- a turn behind which it goes on
-    pub turn_onward : (t : Token) (first seen more : S) (old now mid new : State) (a b c d : T) → LoopOnward first old a seen now b → Follows hear part (λ n. loop.source n now) (Ok (Some t)) mid b c
+    pub turn_onward : (t : X) (first seen more : S) (old now mid new : State) (a b c d : T) → LoopOnward first old a seen now b → Follows hear part (λ n. loop.source n now) (Ok (Some t)) mid b c
         → Follows hear part (λ n. loop.turn seen t n mid) (Ok (On more)) new c d → LoopOnward first old a more new d
     turn_onward t first seen more old now mid new a b c d o g h = record { on = λ r z e k. o.on r z e (by_turn t (On more) r seen now mid new z b c d e g h k) }
 
     -- want of memory behind a turn
-    pub turn_out : (t : Token) (next : Next S A) (first seen : S) (old now mid far new : State) (a b c d : T) → IsWithin far → LoopOnward first old a seen now b → Follows hear part (λ n. loop.source n now) (Ok (Some t)) mid b c
+    pub turn_out : (t : X) (next : Next S A) (first seen : S) (old now mid far new : State) (a b c d : T) → LoopOnward first old a seen now b → Follows hear part (λ n. loop.source n now) (Ok (Some t)) mid b c
         → Follows hear part (λ n. loop.turn seen t n mid) (Ok next) far c d → Follows hear part (λ n. loops loop first n old) (Err stop.NoMemory) new a d
-    turn_out t next first seen old now mid far new a b c d w o g h =
-        o.on (Err stop.NoMemory) new d (by_turn t next (Err stop.NoMemory) seen now mid far new b c d d g h (follows_out hear part (next_at_depth next) (lawful_next next) far new d w))
+    turn_out t next first seen old now mid far new a b c d o g h =
+        o.on (Err stop.NoMemory) new d (by_turn t next (Err stop.NoMemory) seen now mid far new b c d d g h (follows_out hear part (next_at_depth next) (lawful_next next) far new d))

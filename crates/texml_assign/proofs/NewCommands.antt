@@ -24,10 +24,10 @@ use Rattle.texml_expand.specs.Expand.{spelling}
 use Rattle.texml_expand.specs.Arguments.{past_space, past_spaces, is_sign, no_sign, sign_or_back, sign, open_bracket, behind_bracket, read_argument, read_optional}
 use Rattle.texml_expand.specs.Arguments.{is_space as is_space_there, behind_spaces as behind_spaces_there}
 use Rattle.texml_expand.proofs.Calling.{sign_leads, sign_decided}
-use Rattle.texml_expand.proofs.Falls.{lower_none, count}
+use Rattle.texml_expand.proofs.Leading.{lower_none, count}
 use Rattle.texml_assign.specs.declared.table.Naming.{Naming}
 use Rattle.texml_assign.specs.declared.table.Naming.TheVariants.{New, Renew, Provide}
-use Rattle.texml_assign.specs.Meaning.{means}
+use Rattle.texml_expand.specs.Take.{means}
 use Rattle.texml_assign.specs.Operands.{key_of}
 use Rattle.texml_assign.specs.Define.{body_said}
 use Rattle.texml_assign.specs.NewCommand.{starred, only, without_spaces, only_token, is_undefined, is_free, defines, keep_if, defines_now, key_to_define, key_of_name, command_key, needed_number, only_digit, number_said, parameter_count, fitting, first_default, argument_body, numbered, command_of, command_macro, assign_some, new_command}

@@ -20,14 +20,15 @@ use Rattle.texml_expand.specs.Expand.{take_given, take, back, put}
 use Rattle.texml_expand.specs.Contract.{Lower}
 use Rattle.texml_expand.specs.Rest.{Tok}
 use Rattle.texml_expand.proofs.Items.{size-cons, size_put}
-use Rattle.texml_expand.proofs.Falls.{Leads, leads_chain, leads_weaker, lower_none, lower_then, count, take_leads}
-use Rattle.texml_expand.proofs.Settle.{any, chain_decided, take_decided}
+use Rattle.texml_expand.proofs.Leading.{Leads, leads_chain, leads_weaker, lower_none, lower_then, count, take_leads}
+use Rattle.texml_expand.proofs.Deciding.{any, chain_decided, take_decided}
 use Rattle.texml_assign.specs.Loop.{ByDepth, On, Over}
-use Rattle.texml_assign.specs.Meaning.{means}
-use Rattle.texml_assign.specs.Operands.{needed, next_token, token_of, token_or_end, key_of, next_key, is_space, space_turn, spaces_loop, behind_spaces, is_equals, behind_space, behind_sign, behind_equals, meaning_now, meant, with_token, look_ahead}
+use Rattle.texml_expand.specs.Take.{means}
+use Rattle.texml_expand.specs.Arguments.{means_space}
+use Rattle.texml_assign.specs.Operands.{needed, next_token, token_of, token_or_end, key_of, next_key, space_turn, spaces_loop, behind_spaces, is_equals, behind_space, behind_sign, behind_equals, meaning_now, meant, with_token, look_ahead}
 use Rattle.texml_assign.specs.Parameters.{Head, text_of, body_of}
 use Rattle.texml_assign.specs.Define.{parameter_text, needed_body, body_said, next_body, macro_of, defined, assigned}
-use Rattle.texml_assign.specs.Sets.{assign, begin_kind, ended, end_kind, read_after, keep_token}
+use Rattle.texml_assign.specs.Sets.{set, assign, begin_kind, ended, end_kind, read_after, keep_token}
 use Rattle.texml_assign.proofs.Readings.{IsUnlimited, unlimited_chain, Lawful, Plain, lawful_plain, lawful_then, plain_by, plain_give, plain_fail, plain_change, plain_if, plain_then}
 use Rattle.texml_assign.proofs.Looping.{LawfulLoop, lawful_loop}
 
@@ -77,9 +78,9 @@ token_lowers s = leads_chain (λ o t. Lower (count o) s t) (λ o t. Lower (count
 -- Spaces
 
 pub plain_space_turn : (seen : Unit {0}) (t : Token) → Plain (λ s. space_turn seen t 0 s)
-plain_space_turn seen t = plain_by (λ s. means s.world t) (λ m. give (if is_space m then On tt else Over t)) (λ m. plain_give _)
+plain_space_turn seen t = plain_by (λ s. means s.world t) (λ m. give (if means_space m then On tt else Over t)) (λ m. plain_give _)
 
-pub space_is : (b : Bool) (t : Token) (s : State) → is_space (means s.world t) ≡ b → space_turn tt t 0 s ≡ Done (if b then On tt else Over t) s nothing
+pub space_is : (b : Bool) (t : Token) (s : State) → means_space (means s.world t) ≡ b → space_turn tt t 0 s ≡ Done (if b then On tt else Over t) s nothing
 space_is b t s e = ap (λ x. Done (if x then On tt else Over t) s nothing) e
 
 pub spaces_laws : LawfulLoop spaces_loop
@@ -94,7 +95,7 @@ pub lawful_spaces : Lawful behind_spaces
 lawful_spaces = lawful_loop spaces_loop spaces_laws tt
 
 pub plain_behind_space : (t : Token) → Plain (behind_space t)
-plain_behind_space t = plain_by (λ s. means s.world t) (λ m. if is_space m then next_token else give t) (λ m. plain_if (is_space m) next_token (give t) plain_next (plain_give t))
+plain_behind_space t = plain_by (λ s. means s.world t) (λ m. if means_space m then next_token else give t) (λ m. plain_if (means_space m) next_token (give t) plain_next (plain_give t))
 
 pub plain_behind_sign : Plain behind_sign
 plain_behind_sign = plain_then next_token behind_space plain_next plain_behind_space
@@ -124,12 +125,15 @@ below_room k v (g ∷ gs) =
     let again = below_room k v gs in
     omega (arith, again, sum_by-cons (λ (o : Open Key Value Token Kind). length o.after) (put_below key_eq k v g) (map (put_below key_eq k v) gs), sum_by-cons (λ (o : Open Key Value Token Kind). length o.after) g gs)
 
-pub plain_assign : (global : Bool) (k : Key) (m : Meaning) → Plain (change (assign global k m))
-plain_assign global k m = plain_change (assign global k m) (λ s. by global s)
+pub plain_set : (global : Bool) (k : Key) (v : Value) → Plain (change (set global k v))
+plain_set global k v = plain_change (set global k v) (λ s. by global s)
   where
-    by : (global : Bool) (s : State) → Lower 0 s (assign global k m s)
-    by true s = same_room s (assign true k m s) refl refl refl (let e = below_room k (Means m) s.world.groups in omega arith)
-    by false s = same_room s (assign false k m s) refl refl refl (omega arith)
+    by : (global : Bool) (s : State) → Lower 0 s (set global k v s)
+    by true s = same_room s (set true k v s) refl refl refl (let e = below_room k v s.world.groups in omega arith)
+    by false s = same_room s (set false k v s) refl refl refl (omega arith)
+
+pub plain_assign : (global : Bool) (k : Key) (m : Meaning) → Plain (change (assign global k m))
+plain_assign global k m = plain_set global k (Means m)
 
 -- what follows a name, and what follows its meaning
 abbrev pub key_taken : Bool → ByDepth Meaning → Key → ByDepth (Unit {0})
@@ -155,13 +159,13 @@ needed_one (Some x) s t low = low
 next_lowers : (s : State) → Leads (λ t u. Lower 1 s u) (next_token s)
 next_lowers s = leads_chain (λ o t. Lower (count o) s t) (λ t u. Lower 1 s u) (token_or_end s) needed (token_lowers s) (λ o t low. needed_one o s t low)
 
-kept_lower : (s t u : State) → Lower 1 s t → u.limit ≡ t.limit → u.nesting ≡ t.nesting → u.begun ≡ t.begun → room u ≤ room t + 1 → Lower 0 s u
+pub kept_lower : (s t u : State) → Lower 1 s t → u.limit ≡ t.limit → u.nesting ≡ t.nesting → u.begun ≡ t.begun → room u ≤ room t + 1 → Lower 0 s u
 kept_lower s t u low limit nesting begun more = record {
   limit = limit ∙ low.limit;
   nesting = nesting ∙ low.nesting;
   begun = let b = low.begun in omega arith;
   size = λ e. let l = low.size (sym begun ∙ e) in omega arith;
-  within = λ w. let l = low.within w in omega arith;
+  within = λ w. let b = low.within (omega arith) in omega arith;
 }
 
 -- a token that is taken, and then kept somewhere

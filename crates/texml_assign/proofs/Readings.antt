@@ -6,38 +6,35 @@ use Rattle.texml_expand.specs.declared.stop.Stop.TheVariants as stop
 use Rattle.texml_expand.specs.State.{State, Gains, Tex, Limit, Answer, Done, Ended, Unfinished, Reading, after, chain, IsDecided, give, fail, change}
 use Rattle.texml_expand.specs.Contract.{Lower, DecidesOn, Silent}
 use Rattle.texml_expand.specs.Hearing.{Meets, Follows}
-use Rattle.texml_expand.proofs.Order.{IsWithin, grows_refl, chain_grows, decided_after, Mono}
-use Rattle.texml_expand.proofs.Falls.{Leads, leads_chain, leads_at, leads_weaker, lower_none, lower_then}
-use Rattle.texml_expand.proofs.Settle.{any, chain_decided}
-use Rattle.texml_expand.proofs.Total.{agree}
+use Rattle.texml_expand.proofs.Leading.{Leads, leads_chain, leads_at, leads_weaker, lower_none, lower_then}
+use Rattle.texml_expand.proofs.Deciding.{any, chain_decided}
+use Rattle.texml_expand.proofs.Readings.{grows_refl, Mono, mono_chain, Settles, settles_chain, decides_at, decides_then, chain_decides}
+use Rattle.texml_expand.proofs.Lawful.{By, Lawful as LawfulCalls}
+use Rattle.texml_expand.proofs.Levels.{level_falls}
+use Rattle.texml_expand.proofs.Total.{mono_at, settles_at}
 use Rattle.texml_expand.proofs.Meeting.{meets_then, meets_stop, meets_silent, part_untold}
-use Rattle.texml_assign.specs.Loop.{ByDepth}
+use Rattle.texml_expand.specs.Expand.{ByDepth, level}
 
 -- one reading and then another
 abbrev pub chained : {A B : Type 0} → ByDepth A → (A → ByDepth B) → ByDepth B
 chained r f n s = chain (r n s) (λ v. f v n)
 
--- some depth decides
-pub record Settles {A : Type 0} (r : ℕ → Answer A) : Type 0 where
-  pub at : ℕ
-  pub decided : IsDecided (r at)
-
 -- a deeper look answers the same, some depth decides, and no more is left to be read
 pub record Lawful {A : Type 0} (r : ByDepth A) : Type 0 where
   pub mono : (s : State) → Mono (λ n. r n s)
-  pub settles : (s : State) → IsWithin s → Settles (λ n. r n s)
+  pub settles : (s : State) → Settles (λ n. r n s)
   pub falls : (n : ℕ) (s : State) → Leads (λ v t. Lower 0 s t) (r n s)
 
 -- the same, where perhaps more is left to be read
 pub record Sure {A : Type 0} (r : ByDepth A) : Type 0 where
   pub mono : (s : State) → Mono (λ n. r n s)
-  pub settles : (s : State) → IsWithin s → Settles (λ n. r n s)
+  pub settles : (s : State) → Settles (λ n. r n s)
 
 pub sure : {A : Type 0} (r : ByDepth A) → Lawful r → Sure r
 sure r l = record { mono = l.mono; settles = l.settles }
 
 pub sure_change : (f : State → State) → Sure (λ n. change f)
-sure_change f = record { mono = λ s. record { grows = λ n m le. grows_refl (change f s) }; settles = λ s w. record { at = 0; decided = tt } }
+sure_change f = record { mono = λ s. record { grows = λ n m le. grows_refl (change f s) }; settles = λ s. record { at = 0; decided = tt } }
 
 -- readings without calls: no expansion begins in them, so that the limit doesn't end them
 
@@ -67,7 +64,7 @@ pub record Plain {A : Type 0} (r : Reading A) : Type 0 where
 pub lawful_plain : {A : Type 0} (r : Reading A) → Plain r → Lawful (λ n. r)
 lawful_plain r p = record {
   mono = λ s. record { grows = λ n m le. grows_refl (r s) };
-  settles = λ s w. record { at = 0; decided = p.decided s };
+  settles = λ s. record { at = 0; decided = p.decided s };
   falls = λ n s. p.falls s;
 }
 
@@ -106,57 +103,16 @@ lawful_by look r h = record { mono = λ s. (h (look s)).mono s; settles = λ s. 
 
 -- readings that go together
 
-pub mono_chain : {A B : Type 0} (a : ℕ → Answer A) (f : ℕ → A → Reading B) → Mono a → ((v : A) (s : State) → Mono (λ n. f n v s)) → Mono (λ n. chain (a n) (f n))
-mono_chain a f ma mf = record { grows = λ n m le. chain_grows (ma.grows n m le) (λ v s. (mf v s).grows n m le) }
-
--- what both decide, their chain does
-pub decides_then : {A B : Type 0} (a : ℕ → Answer A) (f : ℕ → A → Reading B) → Mono a → ((v : A) (s : State) → Mono (λ n. f n v s)) → (v : A) (t : State) (gains : Gains) (x : Answer A) (y : Answer B)
-    → x ≡ Done v t gains → DecidesOn a x → DecidesOn (λ n. f n v t) y → DecidesOn (λ n. chain (a n) (f n)) (after gains y)
-decides_then a f ma mf v t gains x y e g h =
-    let deep : ℕ = g.depth + h.depth in
-    let first : a deep ≡ Done v t gains = (ma.grows g.depth deep (omega arith)).same (subst IsDecided (sym g.is) g.decided) ∙ g.is ∙ e in
-    let second : f deep v t ≡ y = ((mf v t).grows h.depth deep (omega arith)).same (subst IsDecided (sym h.is) h.decided) ∙ h.is in
-    record { depth = deep; is = ap (λ z. chain z (f deep)) first ∙ ap (after gains) second; decided = decided_after gains y h.decided }
-
--- an end that the first decides, their chain does
-pub decides_end : {A B : Type 0} (a : ℕ → Answer A) (f : ℕ → A → Reading B) (e : _) (gains : Gains) → DecidesOn a (Ended e gains) → DecidesOn (λ n. chain (a n) (f n)) (Ended e gains)
-decides_end a f e gains g = record { depth = g.depth; is = ap (λ z. chain z (f g.depth)) g.is; decided = tt }
-
--- whatever the first decides, their chain decides something behind it
-chain_decides : {A B : Type 0} (a : ℕ → Answer A) (f : ℕ → A → Reading B) → Mono a → ((v : A) (s : State) → Mono (λ n. f n v s)) → (x : Answer A) → DecidesOn a x
-    → ((v : A) (t : State) (gains : Gains) → x ≡ Done v t gains → Settles (λ n. f n v t)) → (y : Answer B) × DecidesOn (λ n. chain (a n) (f n)) (chain x (λ _ _. y))
-chain_decides a f ma mf (Done v t gains) g h =
-    let later = h v t gains refl in
-    (f later.at v t, decides_then a f ma mf v t gains (Done v t gains) (f later.at v t) refl g (record { depth = later.at; is = refl; decided = later.decided }))
-chain_decides a f ma mf (Ended e gains) g h = (Unfinished gains, decides_end a f e gains g)
-chain_decides a f ma mf (Unfinished gains) g h = absurd g.decided
-
-pub settles_of : {A : Type 0} (r : ℕ → Answer A) (x : Answer A) → DecidesOn r x → Settles r
-settles_of r x g = record { at = g.depth; decided = subst IsDecided (sym g.is) g.decided }
-
--- and all depths that decide agree
-pub decides_one : {A : Type 0} (r : ℕ → Answer A) → Mono r → (x y : Answer A) → DecidesOn r x → DecidesOn r y → x ≡ y
-decides_one r mono x y g h = sym g.is ∙ agree r mono g.depth h.depth (subst IsDecided (sym g.is) g.decided) (subst IsDecided (sym h.is) h.decided) ∙ h.is
-
-pub decides_at : {A : Type 0} (r : ℕ → Answer A) (h : Settles r) → DecidesOn r (r h.at)
-decides_at r h = record { depth = h.at; is = refl; decided = h.decided }
-
--- what follows a value settles where both parts do
-pub settles_chain : {A B : Type 0} (a : ℕ → Answer A) (f : ℕ → A → Reading B) → Mono a → ((v : A) (s : State) → Mono (λ n. f n v s)) → (h : Settles a)
-    → ((v : A) (s : State) (gains : Gains) → a h.at ≡ Done v s gains → Settles (λ n. f n v s)) → Settles (λ n. chain (a n) (f n))
-settles_chain a f ma mf h k =
-    let c = chain_decides a f ma mf (a h.at) (decides_at a h) k in
-    settles_of (λ n. chain (a n) (f n)) (chain (a h.at) (λ _ _. c.0)) c.1
-
 pub lawful_then : {A B : Type 0} (r : ByDepth A) (f : A → ByDepth B) → Lawful r → ((v : A) → Lawful (f v)) → Lawful (chained r f)
 lawful_then r f l k = record {
   mono = λ s. mono_chain (λ n. r n s) (λ n v. f v n) (l.mono s) (λ v t. (k v).mono t);
-  settles = λ s w.
-      let h = l.settles s w in
-      settles_chain (λ n. r n s) (λ n v. f v n) (l.mono s) (λ v t. (k v).mono t) h
-      (λ v t gains e. (k v).settles t ((leads_at (λ v t. Lower 0 s t) (r h.at s) v t gains e (l.falls h.at s)).within w));
+  settles = λ s. settles_chain (λ n. r n s) (λ n v. f v n) (l.mono s) (λ v t. (k v).mono t) (l.settles s) (λ v t gains e. (k v).settles t);
   falls = λ n s. falls_then (r n s) (λ v. f v n) s (l.falls n s) (λ v t. (k v).falls n t);
 }
+
+-- readings by calls that are lawful are so by depth
+pub lawful_calls : {A : Type 0} (r : By A) → LawfulCalls r → Lawful (λ n. r (level n))
+lawful_calls r h = record { mono = λ s. mono_at r h s; settles = λ s. settles_at r h s; falls = λ n s. h.falls (level n) (level_falls n) s }
 
 -- what the code's calls follow
 module _ {T : Type 0} (hear part : T → Record → T → Type 0) where
@@ -170,11 +126,10 @@ module _ {T : Type 0} (hear part : T → Record → T → Type 0) where
   }
 
   -- a call that stops
-  pub follows_stop : {A B : Type 0} (r : ByDepth A) (f : A → ByDepth B) → Lawful r → ((v : A) → Sure (f v)) → (e : Stop) (s new : State) (a b : T) → IsWithin s → Follows hear part (λ n. r n s) (Err e) new a b
+  pub follows_stop : {A B : Type 0} (r : ByDepth A) (f : A → ByDepth B) → Lawful r → ((v : A) → Sure (f v)) → (e : Stop) (s new : State) (a b : T) → Follows hear part (λ n. r n s) (Err e) new a b
       → Follows hear part (λ n. chained r f n s) (Err e) new a b
-  follows_stop r f l k e s new a b w g =
-      let low = λ (v : _) (t : State) (gains : Gains) (is : g.answer ≡ Done v t gains). leads_at (λ v t. Lower 0 s t) (r g.given.depth s) v t gains (g.given.is ∙ is) (l.falls g.given.depth s) in
-      let c = chain_decides (λ n. r n s) (λ n v. f v n) (l.mono s) (λ v t. (k v).mono t) g.answer g.given (λ v t gains is. (k v).settles t ((low v t gains is).within w)) in
+  follows_stop r f l k e s new a b g =
+      let c = chain_decides (λ n. r n s) (λ n v. f v n) (l.mono s) (λ v t. (k v).mono t) g.answer g.given (λ v t gains is. (k v).settles t) in
       record { answer = chain g.answer (λ _ _. c.0); given = c.1; meets = meets_stop hear part g.answer (λ _ _. c.0) e new a b g.meets }
 
   -- a call that asks nothing outside
@@ -189,7 +144,7 @@ module _ {T : Type 0} (hear part : T → Record → T → Type 0) where
   follows_lower r l v s new a b g = follows_leads (λ v t. Lower 0 s t) r v s new a b (λ n. l.falls n s) g
 
   -- want of memory may come before anything was told
-  pub follows_out : {A : Type 0} (r : ByDepth A) → Lawful r → (s new : State) (a : T) → IsWithin s → Follows hear part (λ n. r n s) (Err stop.NoMemory) new a a
-  follows_out r l s new a w =
-      let h = l.settles s w in
+  pub follows_out : {A : Type 0} (r : ByDepth A) → Lawful r → (s new : State) (a : T) → Follows hear part (λ n. r n s) (Err stop.NoMemory) new a a
+  follows_out r l s new a =
+      let h = l.settles s in
       record { answer = r h.at s; given = decides_at (λ n. r n s) h; meets = part_untold hear part (r h.at s) a }

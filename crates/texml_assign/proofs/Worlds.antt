@@ -6,12 +6,11 @@ use Rattle.texml_token.specs.Numbers.{Table, Extends, token_at, tokens_at, Token
 use Rattle.texml_token.specs.declared.tokens.Token.{Token as TokenCode}
 use Rattle.texml_token.proofs.Table.{extends_refl}
 use Rattle.texml_scope.specs.declared.values.KeyOf.TheVariants as keys
-use Rattle.texml_scope.specs.declared.values.ValueOf.TheVariants as values
 use Rattle.texml_scope.specs.declared.values.FaultOf.TheVariants.{NoGroup, WrongGroup}
 use Rattle.texml_scope.specs.Groups.{EndFault, fault_at, begin_group, keep_after, end_group}
 use Rattle.texml_scope.specs.Values.{same_kind}
-use Rattle.texml_scope.specs.Shown.{Shown, KeyCode, world_of}
-use Rattle.texml_scope.specs.Numbers.{MeaningCode, KindCode, world_at, answer_at, key_at, key_back, value_at, meaning_at, kind_at, KeyWithin, KindWithin, MeaningWithin, WorldCovered}
+use Rattle.texml_scope.specs.Shown.{Shown, KeyCode, ValueCode, world_of}
+use Rattle.texml_scope.specs.Numbers.{KindCode, world_at, answer_at, key_at, key_back, value_at, kind_at, KeyWithin, KindWithin, ValueWithin, WorldCovered}
 use Rattle.texml_scope.proofs.Texts.{world_set_local, world_set_global, world_begin, world_keep_after, world_end}
 use Rattle.texml_scope.proofs.Covering.{set_local_covered, set_global_covered, begin_covered, keep_after_covered, end_covered}
 use Rattle.texml_expand.specs.declared.stop.Stop.{Stop}
@@ -22,7 +21,7 @@ use Rattle.texml_expand.specs.Expand.{back, put}
 use Rattle.texml_expand.specs.Held.{Held, state_of, Sound, Kept}
 use Rattle.texml_expand.specs.Contract.{IsFaultAt, Silent}
 use Rattle.texml_expand.proofs.Taking.{silent_fault}
-use Rattle.texml_assign.specs.Sets.{assign, begin_kind, end_code, ended, end_kind, read_after, put_kept_of, put_kept}
+use Rattle.texml_assign.specs.Sets.{set, begin_kind, end_code, ended, end_kind, read_after, put_kept_of, put_kept}
 use Rattle.texml_assign.specs.Advance.{Advances}
 use Rattle.texml_assign.proofs.Doing.{advances_then, advances_stopped}
 use Rattle.texml_assign.specs.Setting.{set_by}
@@ -66,23 +65,23 @@ after_state h scope t e =
 pub after_covered : (h : Held) (scope : Shown) (t : TokenCode) → Sound h → TokenWithin (length h.names) t → world_of scope ≡ keep_after t (world_of h.scope) → WorldCovered (length h.names) (world_of scope)
 after_covered h scope t sound given e = subst (WorldCovered (length h.names)) (sym e) (keep_after_covered (length h.names) t given (world_of h.scope) sound.scope)
 
--- a key is given a meaning
-set_world : (h : Held) (scope : Shown) (global : Bool) (k : KeyCode) (m : MeaningCode) → Sound h → KeyWithin (length h.names) k → world_of scope ≡ set_by global k (values.Means m) (world_of h.scope)
-    → assign global (key_at h.names k) (meaning_at h.names m) (state_of h) ≡ state_of (record h { scope = scope })
-set_world h scope true k m sound within e =
-    ap (λ w. record (state_of h) { world = w }) (sym (ap (world_at h.names) e ∙ world_set_global h.names sound.numbered k within (values.Means m) (world_of h.scope)))
-set_world h scope false k m sound within e =
-    ap (λ w. record (state_of h) { world = w }) (sym (ap (world_at h.names) e ∙ world_set_local h.names sound.numbered k within (values.Means m) (world_of h.scope)))
+-- a key is given a value
+set_world : (h : Held) (scope : Shown) (global : Bool) (k : KeyCode) (v : ValueCode) → Sound h → KeyWithin (length h.names) k → world_of scope ≡ set_by global k v (world_of h.scope)
+    → set global (key_at h.names k) (value_at h.names v) (state_of h) ≡ state_of (record h { scope = scope })
+set_world h scope true k v sound within e =
+    ap (λ w. record (state_of h) { world = w }) (sym (ap (world_at h.names) e ∙ world_set_global h.names sound.numbered k within v (world_of h.scope)))
+set_world h scope false k v sound within e =
+    ap (λ w. record (state_of h) { world = w }) (sym (ap (world_at h.names) e ∙ world_set_local h.names sound.numbered k within v (world_of h.scope)))
 
-pub set_state : (h new : Held) (scope : Shown) (global : Bool) (k : KeyCode) (m : MeaningCode) (writes : ℕ) → Sound h → KeyWithin (length h.names) k → world_of scope ≡ set_by global k (values.Means m) (world_of h.scope)
-    → new ≡ record h { scope = scope; writes = writes } → change (assign global (key_at h.names k) (meaning_at h.names m)) (state_of h) ≡ Done tt (state_of new) nothing
-set_state h new scope global k m writes sound within e is =
-    ap (λ s. Done tt s nothing) (set_world h scope global k m sound within e) ∙ ap (λ (n : Held). Done tt (state_of n) nothing) (sym is)
+pub set_state : (h new : Held) (scope : Shown) (global : Bool) (k : KeyCode) (v : ValueCode) (writes : ℕ) → Sound h → KeyWithin (length h.names) k → world_of scope ≡ set_by global k v (world_of h.scope)
+    → new ≡ record h { scope = scope; writes = writes } → change (set global (key_at h.names k) (value_at h.names v)) (state_of h) ≡ Done tt (state_of new) nothing
+set_state h new scope global k v writes sound within e is =
+    ap (λ s. Done tt s nothing) (set_world h scope global k v sound within e) ∙ ap (λ (n : Held). Done tt (state_of n) nothing) (sym is)
 
-pub set_covered : (h : Held) (scope : Shown) (global : Bool) (k : KeyCode) (m : MeaningCode) → Sound h → KeyWithin (length h.names) k → MeaningWithin (length h.names) m
-    → world_of scope ≡ set_by global k (values.Means m) (world_of h.scope) → WorldCovered (length h.names) (world_of scope)
-set_covered h scope true k m sound within given e = subst (WorldCovered (length h.names)) (sym e) (set_global_covered (length h.names) k (values.Means m) within given (world_of h.scope) sound.scope)
-set_covered h scope false k m sound within given e = subst (WorldCovered (length h.names)) (sym e) (set_local_covered (length h.names) k (values.Means m) within given (world_of h.scope) sound.scope)
+pub set_covered : (h : Held) (scope : Shown) (global : Bool) (k : KeyCode) (v : ValueCode) → Sound h → KeyWithin (length h.names) k → ValueWithin (length h.names) v
+    → world_of scope ≡ set_by global k v (world_of h.scope) → WorldCovered (length h.names) (world_of scope)
+set_covered h scope true k v sound within given e = subst (WorldCovered (length h.names)) (sym e) (set_global_covered (length h.names) k v within given (world_of h.scope) sound.scope)
+set_covered h scope false k v sound within given e = subst (WorldCovered (length h.names)) (sym e) (set_local_covered (length h.names) k v within given (world_of h.scope) sound.scope)
 
 -- a group ends, or doesn't
 module _ (h : Held) (scope : Shown) (kind : KindCode) (answer : Result (List TokenCode) (EndFault KindCode)) (sound : Sound h) (given : KindWithin (length h.names) kind)

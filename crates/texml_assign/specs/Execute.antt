@@ -4,21 +4,25 @@ use Rattle.texml_token.specs.Token.{Token}
 use Rattle.texml_token.specs.declared.fault_code.TheConstants.{FILE_ENDED, BAD_PREFIX}
 use Rattle.texml_scope.specs.declared.values.KindOf.TheVariants.{Begin}
 use Rattle.texml_expand.specs.State.{State, Answer, Reading, ◌>>=◌, ◌>>◌, give, fail, change}
-use Rattle.texml_expand.specs.Expand.{level}
+use Rattle.texml_expand.specs.Expand.{fetch}
 use Rattle.texml_assign.specs.declared.table.Prefix.{Prefix as PrefixWord}
 use Rattle.texml_assign.specs.declared.table.Command.{Command as CommandWord}
-use Rattle.texml_assign.specs.declared.table.Command.TheVariants.{Relax, Def, Gdef, Let, BeginGroup, EndGroup, AfterGroup, AfterAssignment, NewCommand}
+use Rattle.texml_assign.specs.declared.table.Command.TheVariants.{Relax, Def, Gdef, Let, BeginGroup, EndGroup, AfterGroup, AfterAssignment, NewCommand, Assign, Short, Arithmetic}
 use Rattle.texml_assign.specs.declared.table.Executable.{Executable}
 use Rattle.texml_assign.specs.declared.table.Executable.TheVariants.{Prefix, Command}
 use Rattle.texml_assign.specs.declared.table.Prefixes.{Prefixes}
 use Rattle.texml_assign.specs.declared.executing.Executed.{Executed}
 use Rattle.texml_assign.specs.declared.executing.Executed.TheVariants.{Yes, NotMine}
 use Rattle.texml_assign.specs.Table.{executable_of, is_assignment, no_prefixes, with_prefix, may_follow}
+use Rattle.texml_expand.specs.Arguments.{means_space}
 use Rattle.texml_assign.specs.Loop.{ByDepth, Next, On, Over, Loop, loops}
-use Rattle.texml_assign.specs.Meaning.{means}
-use Rattle.texml_assign.specs.Operands.{is_space, meant, with_token}
+use Rattle.texml_expand.specs.Take.{means}
+use Rattle.texml_assign.specs.Operands.{meant, with_token}
 use Rattle.texml_assign.specs.Define.{defined, assigned}
 use Rattle.texml_assign.specs.NewCommand.{new_command}
+use Rattle.texml_assign.specs.Assignments.{assignment}
+use Rattle.texml_assign.specs.ShortNames.{short_name}
+use Rattle.texml_assign.specs.Arithmetic.{arithmetic}
 use Rattle.texml_assign.specs.Sets.{begin_kind, end_kind, read_after, keep_token, put_kept}
 
 -- Rows
@@ -34,6 +38,9 @@ row p EndGroup = λ n. end_kind Begin
 row p AfterGroup = λ n. with_token read_after
 row p AfterAssignment = λ n. with_token keep_token
 row p (NewCommand naming) = new_command naming
+row p (Assign target) = assignment p.global target
+row p (Short what) = short_name p.global what
+row p (Arithmetic what) = arithmetic p.global what
 
 -- behind an assignment comes the kept token
 abbrev pub behind : CommandWord → Reading (Unit {0})
@@ -59,10 +66,10 @@ prefix_word p (Some (Command c)) = followed p c
 
 -- a token behind prefixes, by its meaning; spaces say nothing
 abbrev pub prefix_turn : Prefixes → Token → ByDepth (Next Prefixes (Prefixes × CommandWord))
-prefix_turn p t n s = (if is_space (means s.world t) then give (On p) else prefix_word p (executable_of (means s.world t))) s
+prefix_turn p t n s = (if means_space (means s.world t) then give (On p) else prefix_word p (executable_of (means s.world t))) s
 
 abbrev pub prefix_loop : Loop Prefixes (Prefixes × CommandWord)
-prefix_loop = record { source = λ n. (level n).fetch; turn = prefix_turn; end = λ p. fail FILE_ENDED [] }
+prefix_loop = record { source = fetch; turn = prefix_turn; end = λ p. fail FILE_ENDED [] }
 
 -- the command behind prefixes, with all that stand before it. Tokens are expanded as they are looked at
 abbrev pub prefixed : Prefixes → ByDepth (Prefixes × CommandWord)

@@ -1,10 +1,14 @@
 pub mod Table
 pub mod Loop
-pub mod Meaning
 pub mod Operands
 pub mod Sets
 pub mod Parameters
 pub mod TextFeeding
+pub mod Targets
+pub mod Fillers
+pub mod Assignments
+pub mod ShortNames
+pub mod Arithmetic
 pub mod Define
 pub mod NewCommand
 pub mod Execute
@@ -12,4 +16,5 @@ pub mod Advance
 pub mod Doing
 pub mod Setting
 pub mod Behind
+pub mod TargetCodes
 pub mod Allowing

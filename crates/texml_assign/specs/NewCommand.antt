@@ -16,7 +16,7 @@ use Rattle.texml_expand.specs.Arguments.{sign, read_argument, read_optional}
 use Rattle.texml_assign.specs.declared.table.Naming.{Naming}
 use Rattle.texml_assign.specs.declared.table.Naming.TheVariants.{New, Renew, Provide}
 use Rattle.texml_assign.specs.Loop.{ByDepth}
-use Rattle.texml_assign.specs.Meaning.{means}
+use Rattle.texml_expand.specs.Take.{means}
 use Rattle.texml_assign.specs.Operands.{key_of}
 use Rattle.texml_assign.specs.Parameters.{digit}
 use Rattle.texml_assign.specs.Define.{body_said}

@@ -1,16 +1,16 @@
 -- What commands read behind them, unexpanded (The TeXbook, chapters 20 and 24).
 use Rattle.std.specs.Prelude.{◌==◌, ◌&&◌, Bool, false, if◌then◌else◌, [], Option, None, Some}
 use Rattle.texml_token.specs.Token.{Token, Char, Active, Named}
-use Rattle.texml_token.specs.declared.category.TheConstants.{SPACE, OTHER}
+use Rattle.texml_token.specs.declared.category.TheConstants.{OTHER}
 use Rattle.texml_token.specs.declared.fault_code.TheConstants.{FILE_ENDED, MISPLACED}
 use Rattle.texml_scope.specs.Texts.{Key, Meaning}
 use Rattle.texml_scope.specs.declared.values.KeyOf.TheVariants.{Name, Active as ActiveKey}
-use Rattle.texml_scope.specs.declared.values.MeaningOf.TheVariants.{Char as CharMeaning}
 use Rattle.texml_expand.specs.Next.{Taken}
 use Rattle.texml_expand.specs.State.{State, Reading, ◌>>=◌, give, fail, change}
 use Rattle.texml_expand.specs.Expand.{take, back}
+use Rattle.texml_expand.specs.Arguments.{means_space}
 use Rattle.texml_assign.specs.Loop.{ByDepth, Next, On, Over, Loop, loops}
-use Rattle.texml_assign.specs.Meaning.{means}
+use Rattle.texml_expand.specs.Take.{means}
 
 -- Tokens
 
@@ -48,14 +48,9 @@ next_key = do
 
 -- Spaces
 
--- a space by its meaning: a character of that category
-abbrev pub is_space : Meaning → Bool
-is_space (CharMeaning c category) = category == SPACE
-is_space m = false
-
 -- the next token that isn't a space
 abbrev pub space_turn : Unit {0} → Token → ByDepth (Next (Unit {0}) Token)
-space_turn seen t n s = give (if is_space (means s.world t) then On tt else Over t) s
+space_turn seen t n s = give (if means_space (means s.world t) then On tt else Over t) s
 
 abbrev pub spaces_loop : Loop (Unit {0}) Token
 spaces_loop = record { source = λ n. token_or_end; turn = space_turn; end = λ seen. fail FILE_ENDED [] }
@@ -70,7 +65,7 @@ is_equals t = false
 
 -- this token, or where it is a space the next one
 abbrev pub behind_space : Token → Reading Token
-behind_space t s = (if is_space (means s.world t) then next_token else give t) s
+behind_space t s = (if means_space (means s.world t) then next_token else give t) s
 
 abbrev pub behind_sign : Reading Token
 behind_sign = do

@@ -4,14 +4,18 @@ use Rattle.texml_token.specs.Token.{Token}
 use Rattle.texml_token.specs.declared.fault_code.TheConstants.{GROUP_MISMATCH, NO_GROUP}
 use Rattle.texml_scope.specs.declared.values.FaultOf.TheVariants.{NoGroup, WrongGroup}
 use Rattle.texml_scope.specs.Groups.{EndFault, set_local, set_global, begin_group, keep_after, end_group}
-use Rattle.texml_scope.specs.Texts.{Key, Kind, Meaning, World, key_eq, kind_eq}
+use Rattle.texml_scope.specs.Texts.{Key, Kind, Meaning, Value, World, key_eq, kind_eq}
 use Rattle.texml_scope.specs.declared.values.ValueOf.TheVariants.{Means}
 use Rattle.texml_expand.specs.State.{State, Reading, fail, change}
 use Rattle.texml_expand.specs.Expand.{back, put}
 
--- a name or an active character gets a meaning: in the innermost group, or in all groups and outside them
+-- a key gets a value: in the innermost group, or in all groups and outside them
+abbrev pub set : Bool → Key → Value → State → State
+set global k v s = record s { world = if global then set_global key_eq k v s.world else set_local key_eq k v s.world }
+
+-- a name or an active character gets a meaning
 abbrev pub assign : Bool → Key → Meaning → State → State
-assign global k m s = record s { world = if global then set_global key_eq k (Means m) s.world else set_local key_eq k (Means m) s.world }
+assign global k m = set global k (Means m)
 
 -- a group begins
 abbrev pub begin_kind : Kind → Reading (Unit {0})

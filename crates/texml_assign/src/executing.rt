@@ -15,17 +15,20 @@ ghost use Rattle.texml_assign.specs.Sets.{read_after as spec_read_after, keep_to
 ghost use Rattle.texml_assign.specs.Execute.{row as spec_row, perform as spec_perform, followed, prefix_word, prefix_turn, prefixed as spec_prefixed, execute_prefixed as spec_execute_prefixed, execute_word as spec_execute_word, execute as spec_execute, executes};
 ghost use Rattle.texml_assign.specs.Behind.{turn_of};
 
+use crate::arithmetic::arithmetic;
+use crate::assignments::assignment;
 use crate::define::{define, let_to};
-use crate::meaning::meaning_of;
 use crate::new_command::new_command;
-use crate::operands::{is_space, next_token};
+use crate::operands::next_token;
 use crate::sets::{begin_group, end_group, put_kept, read_after};
+use crate::short_names::short_name;
 use crate::table::{
     Command, Executable, Prefix, Prefixes, executable_at, is_assignment, may_follow, with_prefix,
 };
+use crate::targets::register_of;
 use std::alloc::{AllocError, Global};
 use texml_base::Files;
-use texml_expand::{Engine, Stop};
+use texml_expand::{Engine, Stop, means_space};
 use texml_scope::{GroupKind, Meaning};
 use texml_token::{Token, fault_code};
 use texml_watch::Teller;
@@ -97,7 +100,7 @@ fn execute_meaning<F: Files, T: Teller>(
     ensures same { IfOk result (λ done. done ≡ Executed.NotMine → (engine.new ≡ engine.old) × (tell.new ≡ tell.old)) }
     ensures files { files.new ≡ files.old }
 {
-    let meaning = match meaning_of(engine, token) {
+    let meaning = match engine.means(token) {
         Ok(meaning) => meaning,
         Err(_) => return Err(engine.no_memory()),
     };
@@ -161,6 +164,10 @@ fn executable_of(meaning: &Meaning) -> Option<Executable>
 {
     match meaning {
         Meaning::Builtin(place) => executable_at(*place),
+        Meaning::Quantity(key) => match register_of(*key) {
+            Some(target) => Some(Executable::Command(Command::Assign(target))),
+            None => None,
+        },
         _ => None,
     }
 }
@@ -234,6 +241,18 @@ fn row<F: Files, T: Teller>(
         }
         Command::NewCommand(naming) => {
             new_command(alloc, engine, files, tell, naming)?;
+            Ok(())
+        }
+        Command::Assign(target) => {
+            assignment(engine, files, tell, prefixes.global, target)?;
+            Ok(())
+        }
+        Command::Short(what) => {
+            short_name(engine, files, tell, prefixes.global, what)?;
+            Ok(())
+        }
+        Command::Arithmetic(what) => {
+            arithmetic(engine, files, tell, prefixes.global, what)?;
             Ok(())
         }
     }
@@ -312,8 +331,8 @@ fn token_behind(engine: &Engine, prefixes: Prefixes, token: Token) -> Result<Beh
     requires token { TokenWithin (length engine.now.names) token }
     ensures { IfOk result (λ b. prefix_turn prefixes (token_at engine.now.names token) 0 (state_of engine.now) ≡ turn_of prefixes b (state_of engine.now)) }
 {
-    let meaning = meaning_of(engine, token)?;
-    if is_space(&meaning) {
+    let meaning = engine.means(token)?;
+    if means_space(&meaning) {
         return Ok(Behind::Prefixes(prefixes));
     }
     Ok(word_behind(prefixes, executable_of(&meaning)))

@@ -4,19 +4,22 @@
 //! the world is changed. The contract in a sentence: `execute` takes an engine from a state to the state that a row of the
 //! table of commands gives, with exactly the expansions on the way, or stops it for a reason that the row names, and does
 //! nothing where the token means no command.
-//! It stands on texml_base, texml_token, texml_scope, texml_watch and texml_expand.
+//! It stands on texml_base, texml_fixed, texml_token, texml_scope, texml_watch and texml_expand.
 #![tactic(auto)]
 
+mod arithmetic;
+mod assignments;
 mod define;
 mod executing;
-mod meaning;
+mod fillers;
 mod new_command;
 mod operands;
 mod parameters;
 mod sets;
+mod short_names;
 mod table;
+mod targets;
 
 pub use executing::{Executed, execute};
-pub use meaning::meaning_of;
 pub use operands::{next_token, token_or_end};
 pub use sets::{begin_group, end_group};

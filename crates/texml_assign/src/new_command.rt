@@ -17,7 +17,6 @@ ghost use Rattle.texml_assign.specs.Allowing.{allowed_as};
 ghost use Rattle.texml_assign.specs.NewCommand.{starred as spec_starred, only_token as spec_only_token, is_undefined as spec_is_undefined, is_free as spec_is_free, defines as spec_defines, defines_now as spec_defines_now, key_of_name as spec_key_of_name, command_key as spec_command_key, only_digit as spec_only_digit, number_said as spec_number_said, parameter_count as spec_parameter_count, fitting as spec_fitting, first_default as spec_first_default, argument_body as spec_argument_body, numbered as spec_numbered, command_of as spec_command_of, command_macro as spec_command_macro, new_command as spec_new_command};
 
 use crate::define::body_said;
-use crate::meaning::meaning_of;
 use crate::operands::key_of;
 use crate::parameters::digit;
 use crate::sets::assign;
@@ -161,7 +160,7 @@ fn defines(alloc: Global, engine: &mut Engine, naming: Naming, token: Token) -> 
     ensures keeps { OnOk result (Kept engine.old engine.new) }
     ensures is { engine.new ≡ record engine.old { stop = engine.new.stop } }
 {
-    let meaning = match meaning_of(engine, token) {
+    let meaning = match engine.means(token) {
         Ok(meaning) => meaning,
         Err(_) => return Err(engine.no_memory()),
     };

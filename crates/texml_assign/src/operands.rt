@@ -8,15 +8,15 @@ ghost use Rattle.texml_scope.specs.Numbers.{MeaningCode, key_at, meaning_at, Key
 ghost use Rattle.texml_expand.specs.Contract.{Silent, outside, stop_after};
 ghost use Rattle.texml_expand.specs.Hearing.{hears, hears_part};
 ghost use Rattle.texml_expand.specs.Held.{state_of, Sound, Kept, ok_at};
+ghost use Rattle.texml_expand.specs.Arguments.{means_space as spec_means_space};
 ghost use Rattle.texml_assign.specs.Doing.{Does};
-ghost use Rattle.texml_assign.specs.Meaning.{means};
-ghost use Rattle.texml_assign.specs.Operands.{token_or_end as spec_token_or_end, next_token as spec_next_token, key_of as spec_key_of, next_key as spec_next_key, is_space as spec_is_space, behind_spaces as spec_behind_spaces, is_equals as spec_is_equals, behind_space as spec_behind_space, behind_equals as spec_behind_equals, meant as spec_meant, look_ahead as spec_look_ahead};
+ghost use Rattle.texml_expand.specs.Take.{means};
+ghost use Rattle.texml_assign.specs.Operands.{token_or_end as spec_token_or_end, next_token as spec_next_token, key_of as spec_key_of, next_key as spec_next_key, behind_spaces as spec_behind_spaces, is_equals as spec_is_equals, behind_space as spec_behind_space, behind_equals as spec_behind_equals, meant as spec_meant, look_ahead as spec_look_ahead};
 
-use crate::meaning::meaning_of;
 use crate::sets::put_back;
 use std::alloc::AllocError;
 use texml_base::Files;
-use texml_expand::{Engine, Stop};
+use texml_expand::{Engine, Stop, means_space};
 use texml_scope::{Key, Meaning};
 use texml_token::{Name, Token, category, fault_code};
 use texml_watch::Teller;
@@ -138,24 +138,14 @@ pub fn key_of(engine: &mut Engine, token: Token) -> Result<Key, Stop>
     }
 }
 
-/// Whether a meaning is that of a space.
-pub fn is_space(meaning: &Meaning) -> bool
-    ensures { (texts : Table) → result ≡ spec_is_space (meaning_at texts meaning.now) }
-{
-    match meaning {
-        Meaning::Char(_, found) => *found == category::SPACE,
-        _ => false,
-    }
-}
-
 // Whether a token means a space.
-fn means_space(engine: &Engine, token: Token) -> Result<bool, AllocError>
+fn token_is_space(engine: &Engine, token: Token) -> Result<bool, AllocError>
     requires sound { Sound engine.now }
     requires token { TokenWithin (length engine.now.names) token }
-    ensures { IfOk result (λ b. b ≡ spec_is_space (means (state_of engine.now).world (token_at engine.now.names token))) }
+    ensures { IfOk result (λ b. b ≡ spec_means_space (means (state_of engine.now).world (token_at engine.now.names token))) }
 {
-    let meaning = meaning_of(engine, token)?;
-    Ok(is_space(&meaning))
+    let meaning = engine.means(token)?;
+    Ok(means_space(&meaning))
 }
 
 /// The first token that isn't a space.
@@ -180,7 +170,7 @@ pub fn behind_spaces<F: Files, T: Teller>(
             Some(token) => token,
             None => return Err(engine.bare_fault(fault_code::FILE_ENDED)),
         };
-        let space = match means_space(engine, token) {
+        let space = match token_is_space(engine, token) {
             Ok(space) => space,
             Err(_) => return Err(engine.no_memory()),
         };
@@ -205,7 +195,7 @@ fn behind_space<F: Files, T: Teller>(
     ensures within { IfOk result (TokenWithin (length engine.new.names)) }
     ensures files { files.new ≡ files.old }
 {
-    let space = match means_space(engine, token) {
+    let space = match token_is_space(engine, token) {
         Ok(space) => space,
         Err(_) => return Err(engine.no_memory()),
     };
@@ -237,8 +227,8 @@ fn behind_equals<F: Files, T: Teller>(
     behind_space(engine, files, tell, next)
 }
 
-// Whether a token is an equals sign.
-fn is_equals(token: Token) -> bool
+/// Whether a token is the character `=` of category 12.
+pub fn is_equals(token: Token) -> bool
     ensures { (texts : Table) → result ≡ spec_is_equals (token_at texts token) }
 {
     match token {
@@ -266,7 +256,7 @@ pub fn meant<F: Files, T: Teller>(
 {
     let first = behind_spaces(engine, files, tell)?;
     let token = behind_equals(engine, files, tell, first)?;
-    match meaning_of(engine, token) {
+    match engine.means(token) {
         Ok(meaning) => Ok(meaning),
         Err(_) => Err(engine.no_memory()),
     }

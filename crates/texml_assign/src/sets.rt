@@ -7,13 +7,13 @@ ghost use Rattle.texml_scope.specs.Groups.{begin_group as spec_begin_group, keep
 ghost use Rattle.texml_scope.specs.World.{MaySet};
 ghost use Rattle.texml_scope.specs.Shown.{world_of};
 ghost use Rattle.texml_scope.specs.declared.values.ValueOf.TheVariants.{Means};
-ghost use Rattle.texml_scope.specs.Numbers.{key_at, meaning_at, kind_at, KeyWithin, KindWithin, MeaningWithin};
+ghost use Rattle.texml_scope.specs.Numbers.{key_at, meaning_at, value_at, kind_at, KeyWithin, KindWithin, MeaningWithin, ValueWithin};
 ghost use Rattle.texml_expand.specs.State.{change};
 ghost use Rattle.texml_expand.specs.Expand.{back};
 ghost use Rattle.texml_expand.specs.Contract.{Silent, stop_after};
 ghost use Rattle.texml_expand.specs.Held.{state_of, Sound, Kept};
 ghost use Rattle.texml_assign.specs.Advance.{Advances};
-ghost use Rattle.texml_assign.specs.Sets.{assign as spec_assign, begin_kind, end_kind, end_code as spec_end_code, read_after as spec_read_after, put_kept as spec_put_kept};
+ghost use Rattle.texml_assign.specs.Sets.{set as spec_set, assign as spec_assign, begin_kind, end_kind, end_code as spec_end_code, read_after as spec_read_after, put_kept as spec_put_kept};
 ghost use Rattle.texml_assign.specs.Setting.{set_by};
 
 use std::alloc::AllocError;
@@ -39,14 +39,27 @@ pub fn assign(engine: &mut Engine, global: bool, key: Key, meaning: Meaning) -> 
     ensures keeps { OnOk result (Kept engine.old engine.new) }
     ensures advances { Advances engine.old engine.new }
 {
+    set(engine, global, key, Value::Means(meaning))
+}
+
+/// Gives a key a value of its kind: in the innermost group, or where it is global in all groups and outside them.
+///
+/// # Errors
+///
+/// `NoMemory` where memory was refused.
+pub fn set(engine: &mut Engine, global: bool, key: Key, value: Value) -> Result<(), Stop>
+    requires running { engine.old.stop ≡ None }
+    requires sound { Sound engine.old }
+    requires key { KeyWithin (length engine.old.names) key }
+    requires value { ValueWithin (length engine.old.names) value }
+    requires may { MaySet key value }
+    ensures sets { Silent (change (spec_set global (key_at engine.old.names key) (value_at engine.old.names value)) (state_of engine.old)) result (state_of engine.new) }
+    ensures kept { engine.new.stop ≡ stop_after result }
+    ensures keeps { OnOk result (Kept engine.old engine.new) }
+    ensures advances { Advances engine.old engine.new }
+{
     let mut steps = Steps::new();
-    let set = set_value(
-        engine.scope(),
-        global,
-        key,
-        Value::Means(meaning),
-        &mut steps,
-    );
+    let set = set_value(engine.scope(), global, key, value, &mut steps);
     engine.wrote(&steps);
     match set {
         Ok(()) => Ok(()),

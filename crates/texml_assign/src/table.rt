@@ -3,9 +3,12 @@
 ghost use Rattle.std.specs.Prelude.{◌≡◌};
 ghost use Rattle.texml_assign.specs.Table.{executable_at, is_definition, is_assignment, with_prefix, may_follow};
 
+use crate::targets::{Registers, Target};
+use texml_expand::variable_at;
 use texml_scope::builtins::{
-    AFTERASSIGNMENT, AFTERGROUP, BEGINGROUP, DEF, ENDGROUP, GDEF, GLOBAL, LET, LONG, NEWCOMMAND,
-    OUTER, PROVIDECOMMAND, RELAX, RENEWCOMMAND,
+    ADVANCE, AFTERASSIGNMENT, AFTERGROUP, BEGINGROUP, CHARDEF, COUNTDEF, DEF, DIMENDEF, DIVIDE,
+    ENDGROUP, GDEF, GLOBAL, LET, LONG, MULTIPLY, NEWCOMMAND, OUTER, PROVIDECOMMAND, RELAX,
+    RENEWCOMMAND, SKIPDEF, TOKSDEF,
 };
 
 /// A prefix of commands (The TeXbook, chapter 24).
@@ -24,6 +27,21 @@ pub enum Naming {
     Provide,
 }
 
+/// What a short name stands for: a character, or a register of a kind.
+#[derive(Clone, Copy, Debug, PartialEq, Eq)]
+pub enum ShortFor {
+    Character,
+    Register(Registers),
+}
+
+/// What is done with a value that is counted with.
+#[derive(Clone, Copy, Debug, PartialEq, Eq)]
+pub enum Arithmetic {
+    Advance,
+    Multiply,
+    Divide,
+}
+
 /// A command.
 #[derive(Clone, Copy, Debug, PartialEq, Eq)]
 pub enum Command {
@@ -36,6 +54,9 @@ pub enum Command {
     AfterGroup,
     AfterAssignment,
     NewCommand(Naming),
+    Assign(Target),
+    Short(ShortFor),
+    Arithmetic(Arithmetic),
 }
 
 /// What can be executed.
@@ -81,8 +102,26 @@ pub fn executable_at(place: u16) -> Option<Executable>
         NEWCOMMAND => Some(Executable::Command(Command::NewCommand(Naming::New))),
         RENEWCOMMAND => Some(Executable::Command(Command::NewCommand(Naming::Renew))),
         PROVIDECOMMAND => Some(Executable::Command(Command::NewCommand(Naming::Provide))),
-        _ => None,
+        CHARDEF => Some(Executable::Command(Command::Short(ShortFor::Character))),
+        COUNTDEF => Some(short(Registers::Count)),
+        DIMENDEF => Some(short(Registers::Dimen)),
+        SKIPDEF => Some(short(Registers::Skip)),
+        TOKSDEF => Some(short(Registers::Toks)),
+        ADVANCE => Some(Executable::Command(Command::Arithmetic(Arithmetic::Advance))),
+        MULTIPLY => Some(Executable::Command(Command::Arithmetic(Arithmetic::Multiply))),
+        DIVIDE => Some(Executable::Command(Command::Arithmetic(Arithmetic::Divide))),
+        _ => match variable_at(place) {
+            Some(variable) => Some(Executable::Command(Command::Assign(Target::Behind(variable)))),
+            None => None,
+        },
     }
+}
+
+// The command that names registers of a kind.
+fn short(registers: Registers) -> Executable
+    ensures { result ≡ Executable.Command (Command.Short (ShortFor.Register registers)) }
+{
+    Executable::Command(Command::Short(ShortFor::Register(registers)))
 }
 
 /// Whether a command is a definition.
@@ -96,7 +135,15 @@ pub fn is_definition(command: Command) -> bool
 pub fn is_assignment(command: Command) -> bool
     ensures { result ≡ is_assignment command }
 {
-    matches!(command, Command::Def | Command::Gdef | Command::Let)
+    matches!(
+        command,
+        Command::Def
+            | Command::Gdef
+            | Command::Let
+            | Command::Assign(_)
+            | Command::Short(_)
+            | Command::Arithmetic(_)
+    )
 }
 
 /// The prefixes with one more.

@@ -1,12 +1,12 @@
 -- What the call of a macro gives, by numbers of names and by their texts.
-use Rattle.std.proofs.Common.{◌≡◌, ◌-◌, ◌+◌, ◌≤◌, ◌==◌, ℕ, zero, suc, Bool, true, List, [], ◌∷◌, ◌++◌, length, map, drop, slice_index_or, Option, None, Some, option_map, Result, Ok, Err, refl, sym, ap, ap₂, ◌∙◌, subst, arith, inl, inr}
-use Rattle.std.specs.List.{All, flat_map}
+use Rattle.std.proofs.Common.{◌≡◌, ◌-◌, ◌==◌, ℕ, zero, suc, Bool, true, List, [], ◌∷◌, ◌++◌, length, map, Option, None, Some, option_map, Err, refl, sym, ap, ap₂, ◌∙◌, subst, arith, inl, inr}
+use Rattle.std.specs.List.{All}
 use Rattle.std.specs.Option.{option_to_list, unwrap_or}
 use Rattle.std.proofs.lemmas.Bool.{cases_lt, eqb-true}
 use Rattle.std.proofs.lemmas.List.{map-append, get_or_past, drop-map}
 use Rattle.std.proofs.lemmas.List.Elements.{All-nil, All-cons, All-append, All-head, All-tail}
 use Rattle.std.proofs.Math.ListN.{get_or-map}
-use Rattle.texml_token.specs.Token.{Token, Fixed}
+use Rattle.texml_token.specs.Token.{Token}
 use Rattle.texml_token.specs.declared.tokens.Token.{Token as TokenCode}
 use Rattle.texml_token.specs.declared.tokens.Token.TheVariants as tokens
 use Rattle.texml_token.specs.declared.pieces.PieceOf.{PieceOf}
@@ -15,7 +15,6 @@ use Rattle.texml_token.specs.Pieces.{Params, slots_in, DefaultFits}
 use Rattle.texml_token.specs.Numbers.{Table, Extends, name_at, token_at, tokens_at, piece_at, pieces_at, params_at, TokenWithin, TokensWithin, BodyTokenWithin, BodyWithin, OptionWithin}
 use Rattle.texml_token.proofs.Translation.{map_same, tokens_kept, body_kept, body_more, params_kept}
 use Rattle.texml_scope.specs.Numbers.{MacroWithin}
-use Rattle.texml_match.specs.Reading.{Gives}
 use Rattle.texml_match.specs.Shape.{Shape, shape_at, shape_of, shape_from, leading, delimiters, pieces_left}
 use Rattle.texml_match.specs.Arguments.{reading}
 use Rattle.texml_expand.specs.declared.stop.Stop.{Stop}
@@ -24,7 +23,6 @@ use Rattle.texml_expand.specs.State.{State, nothing, Done, Reading, after, chain
 use Rattle.texml_expand.specs.Arguments.{decided_by, read_by, optional, first_argument, macro_arguments, filled_token, filled, called}
 use Rattle.texml_expand.specs.Filling.{filling, fills}
 use Rattle.texml_expand.specs.Fronts.{MacroCode, macro_at}
-use Rattle.texml_expand.specs.Held.{ok_at}
 use Rattle.texml_expand.specs.Contract.{Silent, Lower}
 use Rattle.texml_expand.proofs.Leading.{leads_at}
 use Rattle.texml_expand.proofs.Least.{by_least_at}

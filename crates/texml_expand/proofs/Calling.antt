@@ -1,21 +1,19 @@
 -- The call of a macro, and what commands read: they decide, and leave less to be read.
-use Rattle.std.proofs.Common.{◌≡◌, ◌+◌, ◌≤◌, ℕ, zero, suc, Bool, true, false, if◌then◌else◌, List, [], ◌∷◌, ◌++◌, length, Option, Some, None, refl, sym, ap, ◌∙◌, subst, arith}
-use Rattle.std.specs.Option.{option_to_list, unwrap_or}
+use Rattle.std.proofs.Common.{◌≡◌, ◌+◌, ℕ, zero, suc, Bool, true, false, if◌then◌else◌, List, [], ◌∷◌, ◌++◌, length, Option, Some, None, arith}
 use Rattle.texml_token.specs.Token.{Token}
 use Rattle.texml_scope.specs.Texts.{MacroText}
 use Rattle.texml_match.specs.Reading.{Reader}
 use Rattle.texml_match.specs.Shape.{shape_of}
 use Rattle.texml_match.specs.Arguments.{argument, reading}
-use Rattle.texml_expand.specs.Rest.{Item, Tok, Frozen, back_as, item_size, size}
+use Rattle.texml_expand.specs.Rest.{Item, Tok, Frozen, back_as, size}
 use Rattle.texml_expand.specs.declared.feeding.Verdict.{Verdict}
 use Rattle.texml_expand.specs.Next.{Taken}
-use Rattle.texml_expand.specs.State.{State, room, nothing, Answer, Done, Ended, Unfinished, Reading, after, chain, IsDecided, give}
+use Rattle.texml_expand.specs.State.{State, room, Answer, Reading, chain, IsDecided, give}
 use Rattle.texml_expand.specs.Take.{take, back}
-use Rattle.texml_expand.specs.Least.{by_least}
-use Rattle.texml_expand.specs.Arguments.{decided_by, read_by, is_space, past_space, past_spaces, behind_spaces, is_sign, no_sign, sign_or_back, sign, open_bracket, close_bracket, some, behind_bracket, optional, first_argument, macro_arguments, filled, called}
+use Rattle.texml_expand.specs.Arguments.{decided_by, read_by, is_space, past_space, past_spaces, behind_spaces, is_sign, no_sign, sign_or_back, sign, open_bracket, close_bracket, behind_bracket, optional, first_argument, macro_arguments, filled, called}
 use Rattle.texml_expand.specs.Contract.{Lower}
 use Rattle.texml_expand.proofs.Items.{size-cons}
-use Rattle.texml_expand.proofs.Leading.{Leads, leads_chain, leads_weaker, count, lower_none, lower_then}
+use Rattle.texml_expand.proofs.Leading.{Leads, leads_chain, leads_weaker, count, lower_none, lower_then, lower_less}
 use Rattle.texml_expand.proofs.Deciding.{any, chain_decided, take_decided}
 use Rattle.texml_expand.proofs.Least.{Takes, takes_then, take_takes, Decides, by_least_leads, by_least_decided}
 
@@ -59,9 +57,6 @@ back_lower t frozen s u g = record {
   size = λ e. let l = g.lower.size e in omega (arith, l, back_size t frozen u.rest);
   within = g.lower.within;
 }
-
-lower_less : (k : ℕ) (s t : State) → Lower k s t → Lower 0 s t
-lower_less k s t l = lower_then k 0 0 s t t l (lower_none t) (omega arith)
 
 if_sign_leads : (b : Bool) (x : Taken) (s t : State) → Takes 1 s t → Leads (λ found u. Lower 0 s u) ((if b then give true else no_sign x) t)
 if_sign_leads true x s t g = lower_less 1 s t g.lower

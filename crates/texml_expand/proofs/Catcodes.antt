@@ -1,5 +1,5 @@
 -- The categories and the end character of a world over texts are those of the code's world.
-use Rattle.std.proofs.Common.{◌≡◌, ℕ, Option, ap}
+use Rattle.std.proofs.Common.{◌≡◌, ap}
 use Rattle.texml_token.specs.Numbers.{Table}
 use Rattle.texml_scope.specs.declared.values.KeyOf.TheVariants.{Cat, EndLineChar}
 use Rattle.texml_scope.specs.World.{World as WorldCode}

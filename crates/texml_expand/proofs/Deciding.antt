@@ -1,6 +1,6 @@
 -- Readings that decide.
-use Rattle.std.proofs.Common.{◌≡◌, Option, Some, None, refl}
-use Rattle.texml_expand.specs.Next.{Taken, Given, Got, AtEnd, Invalid, next}
+use Rattle.std.proofs.Common.{◌≡◌, refl}
+use Rattle.texml_expand.specs.Next.{Given, Got, AtEnd, Invalid, next}
 use Rattle.texml_expand.specs.State.{State, Gains, Answer, Done, Ended, Unfinished, Reading, nothing, after, chain, IsDecided}
 use Rattle.texml_expand.specs.Codes.{cats_of, end_of}
 use Rattle.texml_expand.specs.Take.{take_given, take}

@@ -1,6 +1,5 @@
 -- Tokens that are fed until they decide, as the readings by the least number of next tokens see them.
-use Rattle.std.proofs.Common.{◌≡◌, ◌+◌, ◌≤◌, ◌<◌, ℕ, zero, suc, Bool, true, false, List, [], ◌∷◌, ◌++◌, length, length-append, append_assoc, take, take_all, map, None, Result, Ok, Err, refl, sym, ap, ◌∙◌, subst, arith, inl, inr}
-use Rattle.std.specs.List.{All}
+use Rattle.std.proofs.Common.{◌≡◌, ◌+◌, ◌≤◌, ◌<◌, ℕ, suc, true, false, List, [], ◌∷◌, ◌++◌, length, length-append, append_assoc, take, take_all, None, Result, Ok, Err, refl, sym, ap, ◌∙◌, subst, arith, inl, inr}
 use Rattle.std.proofs.lemmas.Bool.{cases_lt}
 use Rattle.std.proofs.lemmas.List.{map-append, length-map, take-append-le}
 use Rattle.std.proofs.lemmas.List.Elements.{All-nil, All-push, All-take}
@@ -14,13 +13,13 @@ use Rattle.texml_expand.specs.declared.stop.Stop.{Stop}
 use Rattle.texml_expand.specs.declared.stop.Stop.TheVariants as stop
 use Rattle.texml_expand.specs.declared.feeding.Verdict.{Verdict}
 use Rattle.texml_expand.specs.declared.feeding.Verdict.TheVariants.{TooShort, Yields, Refuses}
-use Rattle.texml_expand.specs.State.{State, End, Tex, Limit, room, nothing, Answer, Done, Ended, Unfinished, after, chain, give}
+use Rattle.texml_expand.specs.State.{State, End, Tex, Limit, room, nothing, Answer, Done, Ended, after, chain, give}
 use Rattle.texml_expand.specs.Held.{Held, state_of, Sound, Kept, Progress, ok_at}
 use Rattle.texml_expand.specs.Contract.{Silent, IsFaultAt}
 use Rattle.texml_expand.specs.Least.{inner_token, next_tokens, decides, decided, is_enough, by_least}
-use Rattle.texml_expand.specs.Feeding.{Judge, IsFed, Short, Seen, Settled, CutShort, EndsWith, Refused, Cut, Feeds}
+use Rattle.texml_expand.specs.Feeding.{Judge, IsFed, Short, Seen, Settled, CutShort, Refused, Cut, Feeds}
 use Rattle.texml_expand.proofs.Deciding.{after_nothing}
-use Rattle.texml_expand.proofs.Falls.{Leads, leads_at}
+use Rattle.texml_expand.proofs.Leading.{leads_at}
 use Rattle.texml_expand.proofs.Progress.{progress_itself, progress_then}
 use Rattle.texml_expand.proofs.Fronts.{kept_then, kept_itself}
 use Rattle.texml_expand.proofs.Least.{Takes, Took, takes_room, inner_takes, next_took, one_more, by_least_at, by_least_ends}

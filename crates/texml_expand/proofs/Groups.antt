@@ -1,5 +1,5 @@
 -- The tokens of a group in braces, as they are fed.
-use Rattle.std.proofs.Common.{◌≡◌, ◌+◌, ◌-◌, ◌≤◌, ◌<◌, ℕ, zero, suc, Bool, true, false, cond, if◌then◌else◌, List, [], ◌∷◌, ◌++◌, length, take, length-append, map, Result, Ok, Err, refl, sym, ap, ◌∙◌, subst, arith}
+use Rattle.std.proofs.Common.{◌≡◌, ◌+◌, ◌-◌, ◌≤◌, ℕ, zero, suc, Bool, true, false, cond, if◌then◌else◌, List, [], ◌∷◌, ◌++◌, length, take, length-append, Result, Ok, Err, refl, sym, ap, ◌∙◌, subst, arith}
 use Rattle.std.specs.List.{count_by}
 use Rattle.std.specs.Result.{IfOk}
 use Rattle.std.proofs.lemmas.List.{map-append, length-map, length-take-le, take-map}
@@ -12,16 +12,15 @@ use Rattle.texml_token.specs.Numbers.{Table, token_at, tokens_at, TokenWithin, T
 use Rattle.texml_token.specs.declared.tokens.Token.{Token as TokenCode}
 use Rattle.texml_token.specs.declared.category.TheConstants.{BEGIN_GROUP, END_GROUP}
 use Rattle.texml_expand.specs.declared.stop.Stop.{Stop}
-use Rattle.texml_expand.specs.declared.feeding.Verdict.{Verdict}
-use Rattle.texml_expand.specs.declared.feeding.Verdict.TheVariants.{TooShort, Yields, Refuses}
-use Rattle.texml_expand.specs.State.{State, nothing, Answer}
+use Rattle.texml_expand.specs.declared.feeding.Verdict.TheVariants.{TooShort, Yields}
+use Rattle.texml_expand.specs.State.{State, nothing}
 use Rattle.texml_expand.specs.Held.{Held, state_of, ok_at}
 use Rattle.texml_expand.specs.Contract.{Silent, Lower}
 use Rattle.texml_expand.specs.Absorb.{closes, absorbed, absorb}
-use Rattle.texml_expand.specs.Feeding.{IsOpen, Judge, Feeds, judge_group}
-use Rattle.texml_expand.proofs.Falls.{Leads, leads_at, leads_weaker, lower_none, lower_then}
+use Rattle.texml_expand.specs.Feeding.{IsOpen, Feeds, judge_group}
+use Rattle.texml_expand.proofs.Leading.{Leads, leads_at, leads_weaker, lower_none, lower_then}
 use Rattle.texml_expand.proofs.Least.{choose_yes, choose_no, Decides, by_least_leads}
-use Rattle.texml_expand.proofs.Fed.{verdict_at, Agrees, feeds_silent}
+use Rattle.texml_expand.proofs.Fed.{verdict_at, Agrees}
 
 -- a group that ends is open
 pub one_open : (n : ℕ) (ends : Bool) → (n ≡ 0 → ends ≡ false) → ends ≡ true → 1 ≤ n

@@ -1,7 +1,7 @@
 -- Where a reading leads, and that taking leaves less to be read.
-use Rattle.std.proofs.Common.{◌≡◌, ◌+◌, ◌≤◌, ℕ, [], length, Option, Some, None, refl, sym, ap, ◌∙◌, subst, arith}
+use Rattle.std.proofs.Common.{◌≡◌, ◌+◌, ◌≤◌, ℕ, length, Option, refl, ◌∙◌, subst, arith, inl, inr, eq-or-lt_of_le}
 use Rattle.std.specs.Option.{option_to_list}
-use Rattle.texml_expand.specs.Next.{Taken, Given, Got, AtEnd, Invalid, next}
+use Rattle.texml_expand.specs.Next.{Given, Got, AtEnd, Invalid, next}
 use Rattle.texml_expand.specs.Codes.{cats_of, end_of}
 use Rattle.texml_expand.specs.State.{State, Gains, Answer, Done, Ended, Unfinished, Reading, after, chain}
 use Rattle.texml_expand.specs.Take.{take, take_given}
@@ -39,7 +39,7 @@ count o = length (option_to_list o)
 
 -- less is left to read
 pub lower_none : (s : State) → Lower 0 s s
-lower_none s = record { limit = refl; nesting = refl; begun = omega arith; size = λ _. omega arith; within = λ le. le }
+lower_none s = record { limit = refl; nesting = refl; begun = omega arith; size = λ _. omega arith; within = λ lt. absurd (omega (arith, lt)) }
 
 pub lower_then : (j k m : ℕ) (s t u : State) → Lower j s t → Lower k t u → m ≤ j + k → Lower m s u
 lower_then j k m s t u g h le = record {
@@ -47,7 +47,10 @@ lower_then j k m s t u g h le = record {
   nesting = h.nesting ∙ g.nesting;
   begun = omega (arith, g.begun, h.begun);
   size = λ e. let a = g.size (omega (arith, g.begun, h.begun, e)) in let b = h.size (omega (arith, g.begun, h.begun, e)) in omega arith;
-  within = λ le. h.within (g.within le);
+  within = λ lt. elim (eq-or-lt_of_le h.begun) [
+    | inl same ↦ (let w : t.begun ≤ t.limit = g.within (omega (arith, lt, same)) in omega (arith, w, same, h.limit))
+    | inr later ↦ h.within later
+  ];
 }
 
 pub begins_lower : (k m : ℕ) (s t u : State) → Begins s t → Lower k t u → Lower m s u
@@ -56,8 +59,14 @@ begins_lower k m s t u g h = record {
   nesting = h.nesting ∙ g.nesting;
   begun = omega (arith, g.begun, h.begun);
   size = λ e. absurd (omega (arith, g.begun, h.begun, e));
-  within = λ le. h.within (g.within le);
+  within = λ lt. elim (eq-or-lt_of_le h.begun) [
+    | inl same ↦ omega (arith, g.within, same, h.limit)
+    | inr later ↦ h.within later
+  ];
 }
+
+pub lower_less : (k : ℕ) (s t : State) → Lower k s t → Lower 0 s t
+lower_less k s t l = lower_then k 0 0 s t t l (lower_none t) (omega arith)
 
 -- the token at the front is gone
 given_leads : (s : State) (g : Given) → next (cats_of s.world) (end_of s.world) s.rest s.place ≡ g → Leads (λ o t. Lower (count o) s t) (take_given g s)
@@ -66,9 +75,9 @@ given_leads s (Got t rest place) e = record {
   nesting = refl;
   begun = omega arith;
   size = λ _. let less = next_lower (cats_of s.world) (end_of s.world) s.rest rest s.place place t e in omega arith;
-  within = λ le. le;
+  within = λ lt. absurd (omega (arith, lt));
 }
-given_leads s (AtEnd place) e = record { limit = refl; nesting = refl; begun = omega arith; size = λ _. omega arith; within = λ le. le }
+given_leads s (AtEnd place) e = record { limit = refl; nesting = refl; begun = omega arith; size = λ _. omega arith; within = λ lt. absurd (omega (arith, lt)) }
 given_leads s (Invalid c place) e = tt
 
 pub take_leads : (s : State) → Leads (λ o t. Lower (count o) s t) (take s)

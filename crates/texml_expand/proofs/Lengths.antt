@@ -1,5 +1,5 @@
 -- An argument is no longer than what is read for it.
-use Rattle.std.proofs.Common.{◌≡◌, ◌+◌, ◌-◌, ◌≤◌, ℕ, Bool, true, false, ◌&&◌, ◌||◌, not, if◌then◌else◌, List, [], ◌∷◌, ◌++◌, length, length-append, take, Option, None, Some, option_map, Result, Ok, Err, refl, sym, ap, ◌∙◌, subst, arith}
+use Rattle.std.proofs.Common.{◌≡◌, ◌+◌, ◌-◌, ◌≤◌, ℕ, Bool, true, false, ◌&&◌, ◌||◌, not, if◌then◌else◌, List, [], ◌∷◌, ◌++◌, length, length-append, take, Option, None, Some, option_map, Result, Ok, Err, refl, ap, subst, arith}
 use Rattle.std.specs.List.{list_any, ends_with}
 use Rattle.std.specs.Option.{unwrap_or}
 use Rattle.std.specs.Result.{IfOk}
@@ -8,14 +8,13 @@ use Rattle.texml_token.specs.Token.{Token, has_category, token_eq}
 use Rattle.texml_token.specs.Numbers.{tokens_at}
 use Rattle.texml_token.specs.declared.tokens.Token.{Token as TokenCode}
 use Rattle.texml_token.specs.declared.category.TheConstants.{BEGIN_GROUP, END_GROUP, SPACE}
-use Rattle.texml_match.specs.declared.arg_match.MatchFault.{MatchFault}
 use Rattle.texml_match.specs.declared.arg_match.MatchFault.TheVariants.{RunawayPar, ExtraBrace}
 use Rattle.texml_match.specs.Groups.{is_balanced, ends_unbegun, closes, but_last, inside, unbraced}
 use Rattle.texml_match.specs.Reading.{Read, Wants, Gives, Fails, Reader, Verdict, decided_or, least, behind}
 use Rattle.texml_match.specs.Arguments.{spaces, undelimited, delimited, argument_in, is_par, lets_par, verdict, argument}
 use Rattle.texml_expand.specs.declared.stop.Stop.{Stop}
 use Rattle.texml_expand.specs.declared.feeding.Verdict.TheVariants.{Yields}
-use Rattle.texml_expand.specs.State.{State, room, nothing, Answer, Done, chain, give}
+use Rattle.texml_expand.specs.State.{State, nothing, give}
 use Rattle.texml_expand.specs.Held.{Held, state_of, ok_at}
 use Rattle.texml_expand.specs.Contract.{Silent, Lower}
 use Rattle.texml_expand.specs.Arguments.{decided_by, read_by, sign, open_bracket, close_bracket, behind_bracket, read_argument, read_optional, optional}

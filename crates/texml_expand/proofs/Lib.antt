@@ -12,15 +12,25 @@ pub mod Stopping
 pub mod Leading
 pub mod Deciding
 pub mod Calling
-pub mod Order
-pub mod Falls
+pub mod Readings
+pub mod Lawful
+pub mod Looking
+pub mod Levels
 pub mod Settle
 pub mod Total
+pub mod Public
 pub mod Meeting
 mod Rows
+pub mod Scanning
+pub mod Printing
 pub mod Judging
 pub mod Fronts
+pub mod Doing
 pub mod Rounds
+pub mod Looks
+pub mod Showing
+pub mod Worth
+pub mod Within
 pub mod Least
 pub mod Fed
 pub mod Groups

@@ -1,10 +1,10 @@
 -- A reading by the least number of next tokens, of which the value alone is changed.
-use Rattle.std.proofs.Common.{◌≡◌, ◌+◌, ℕ, zero, suc, Bool, true, false, List, [], ◌∷◌, ◌++◌, append-nil, if◌then◌else◌, map, slice_index_or, Result, Ok, Err, refl, sym, ap, ap₂, ◌∙◌, subst}
+use Rattle.std.proofs.Common.{◌≡◌, ◌+◌, ℕ, zero, suc, Bool, List, [], ◌∷◌, ◌++◌, append-nil, if◌then◌else◌, map, slice_index_or, Err, refl, sym, ap, ap₂, ◌∙◌, subst}
 use Rattle.texml_token.specs.Token.{Token}
 use Rattle.texml_token.specs.Numbers.{Table, tokens_at}
 use Rattle.texml_token.specs.declared.tokens.Token.{Token as TokenCode}
 use Rattle.texml_match.specs.Shape.{Shape, shape_at}
-use Rattle.texml_match.specs.Reading.{Read, Wants, Gives, Fails, Reader, behind, give as give_read, ◌>>=◌}
+use Rattle.texml_match.specs.Reading.{Read, Wants, Gives, Fails, behind, give as give_read, ◌>>=◌}
 use Rattle.texml_match.specs.Arguments.{argument, arguments, reading}
 use Rattle.texml_expand.specs.declared.stop.Stop.{Stop}
 use Rattle.texml_expand.specs.declared.stop.Stop.TheVariants as stop

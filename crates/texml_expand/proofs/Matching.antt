@@ -1,12 +1,12 @@
 -- Arguments that are matched, a token at a time, as the readings by the least number of next tokens see them.
-use Rattle.std.proofs.Common.{◌≡◌, ◌+◌, ◌≤◌, ◌<◌, ◌==◌, ◌&&◌, ℕ, zero, suc, Bool, true, false, List, [], ◌∷◌, ◌++◌, length, append_assoc, append-nil, take, take_all, map, None, Result, Ok, Err, refl, sym, ap, ◌∙◌, subst, arith, inl, inr}
+use Rattle.std.proofs.Common.{◌≡◌, ◌≤◌, ◌<◌, ◌==◌, ◌&&◌, ℕ, suc, Bool, true, false, List, [], ◌∷◌, ◌++◌, length, append_assoc, append-nil, take, take_all, map, None, Err, refl, sym, ap, ◌∙◌, subst, arith, inl, inr}
 use Rattle.std.proofs.lemmas.Bool.{cases_lt}
 use Rattle.std.proofs.lemmas.List.{take-append-le}
 use Rattle.std.proofs.Math.Seq.{take-append_seam}
 use Rattle.texml_token.specs.Token.{Token}
-use Rattle.texml_token.specs.Numbers.{Table, Numbered, token_at, tokens_at}
+use Rattle.texml_token.specs.Numbers.{Table, token_at, tokens_at}
 use Rattle.texml_token.specs.declared.tokens.Token.{Token as TokenCode}
-use Rattle.texml_match.specs.Reading.{Read, Wants, Gives, Fails, Reader}
+use Rattle.texml_match.specs.Reading.{Wants, Gives, Fails, Reader}
 use Rattle.texml_match.specs.Shape.{Shape, shape_at, is_empty}
 use Rattle.texml_match.specs.Arguments.{reading}
 use Rattle.texml_match.specs.Left.{Matched, left, Reads, Says}
@@ -17,11 +17,11 @@ use Rattle.texml_match.proofs.Growing.{left_kept, reads_kept}
 use Rattle.texml_expand.specs.declared.stop.Stop.{Stop}
 use Rattle.texml_expand.specs.declared.stop.Stop.TheVariants as stop
 use Rattle.texml_expand.specs.declared.feeding.Verdict.{Verdict}
-use Rattle.texml_expand.specs.declared.feeding.Verdict.TheVariants.{TooShort, Yields, Refuses}
-use Rattle.texml_expand.specs.State.{State, End, Tex, Limit, room, nothing, Answer, Done, Ended, after, fault_at}
+use Rattle.texml_expand.specs.declared.feeding.Verdict.TheVariants.{Yields, Refuses}
+use Rattle.texml_expand.specs.State.{State, End, Tex, Limit, nothing, Done, Ended, after}
 use Rattle.texml_expand.specs.Held.{Held, state_of, Sound, Kept, Progress}
 use Rattle.texml_expand.specs.Contract.{Silent, IsFaultAt}
-use Rattle.texml_expand.specs.Least.{inner_token, next_tokens, decides, decided, is_enough, by_least}
+use Rattle.texml_expand.specs.Least.{inner_token, next_tokens, decides, decided, is_enough}
 use Rattle.texml_expand.specs.Arguments.{fault_number, decided_by, read_by}
 use Rattle.texml_expand.proofs.Leading.{leads_at}
 use Rattle.texml_expand.proofs.Progress.{progress_itself, progress_then}

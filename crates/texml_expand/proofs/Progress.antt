@@ -1,6 +1,5 @@
 -- Names are added and expansions begun, step by step.
-use Rattle.std.proofs.Common.{◌≡◌, ◌∙◌, ◌≤◌, Some, refl, arith, subst, sym}
-use Rattle.texml_token.specs.Numbers.{Table, Extends}
+use Rattle.std.proofs.Common.{◌≡◌, ◌∙◌, Some, refl, arith, subst, sym}
 use Rattle.texml_token.proofs.Table.{extends_refl, extends_trans}
 use Rattle.texml_expand.specs.declared.stop.Stop.{Stop}
 use Rattle.texml_expand.specs.Held.{Held, Progress}

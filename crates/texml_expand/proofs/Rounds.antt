@@ -1,132 +1,143 @@
--- Expanding and fetching, step by step.
-use Rattle.std.proofs.Common.{◌≡◌, ◌∙◌, ◌-◌, ◌≤◌, ◌<◌, ℕ, List, Option, Some, None, Result, Ok, Err, refl, sym, subst, arith}
+-- Fetching and expanding, step by step.
+use Rattle.std.proofs.Common.{◌≡◌, ◌∙◌, ◌+◌, ◌-◌, ◌++◌, map, length, ◌≤◌, ◌<◌, ℕ, Bool, List, Option, Some, None, Result, Ok, Err, sym, ap, subst, arith}
+use Rattle.std.specs.Result.{OnOk}
 use Rattle.texml_token.specs.Token.{Token}
+use Rattle.texml_token.specs.declared.tokens.Token.{Token as TokenCode}
+use Rattle.texml_token.specs.Numbers.{tokens_at, TokensWithin}
 use Rattle.texml_watch.specs.declared.record.Record.{Record}
 use Rattle.texml_expand.specs.declared.stop.Stop.{Stop}
-use Rattle.texml_expand.specs.declared.stop.Stop.TheVariants as stop
-use Rattle.texml_expand.specs.State.{State, give}
-use Rattle.texml_expand.specs.Expand.{Expandable, Call, Front, Nothing, Plain, Expands, front, begin, finish, meaning_of, expandable, expand, expand_token, fetch_front, level, fetches, expands, expands_token}
-use Rattle.texml_scope.specs.Texts.{MacroText}
-use Rattle.texml_expand.specs.Arguments.{called}
-use Rattle.texml_expand.specs.Held.{Held, state_of, Kept, Progress}
-use Rattle.texml_expand.specs.Contract.{Silent, Lower, Begins, Stops, outside}
-use Rattle.texml_expand.specs.Hearing.{Meets, Follows}
-use Rattle.texml_expand.proofs.Order.{IsWithin}
-use Rattle.texml_expand.proofs.Falls.{lower_none, lower_then, begins_lower}
-use Rattle.texml_expand.proofs.Settle.{expand_token_decided}
-use Rattle.texml_expand.proofs.Total.{total, fetch_is, gives_fetch, gives_expand, expand_given, gives_token}
-use Rattle.texml_expand.proofs.Progress.{progress_then}
-use Rattle.texml_expand.proofs.Fronts.{kept_then}
-use Rattle.texml_expand.proofs.Meeting.{meets_then, meets_stop, meets_silent, part_untold, follows_of}
+use Rattle.texml_expand.specs.Rest.{Tok}
+use Rattle.texml_expand.specs.Next.{Taken}
+use Rattle.texml_expand.specs.State.{State, nothing, Done}
+use Rattle.texml_expand.specs.declared.variables.Index.{Index}
+use Rattle.texml_expand.specs.Calls.{Expandable}
+use Rattle.texml_expand.specs.Quantities.{Looked, read_index, next_looked}
+use Rattle.texml_expand.specs.Expand.{Front, Nothing, Plain, Expands, front, begin, given, finish, expand_by, fetch_front, level}
+use Rattle.texml_expand.specs.declared.engine.expanding.Front.{Front as FrontCode}
+use Rattle.texml_expand.specs.Fronts.{front_at}
+use Rattle.texml_expand.specs.Held.{Held, state_of, Sound, Kept, Progress, IsAtLimit}
+use Rattle.texml_expand.specs.Contract.{Silent, Lower, Begins, Stops, outside, stop_after}
+use Rattle.texml_expand.specs.Hearing.{Meets}
+use Rattle.texml_expand.specs.Doing.{Does}
+use Rattle.texml_expand.proofs.Leading.{lower_none, lower_then, begins_lower}
+use Rattle.texml_expand.proofs.Lawful.{lawful_fetch, lawful_expand}
+use Rattle.texml_expand.proofs.Total.{total, fetch_is, expand_is}
+use Rattle.texml_expand.proofs.Levels.{lawful_given}
+use Rattle.texml_expand.proofs.Doing.{Did, does_of, did_of, did_as, did_then, did_stop, did_silent, did_now}
+use Rattle.texml_expand.proofs.Fronts.{begun_kept, finished_kept}
 
 -- less is left to read
 pub lower_begun : (j : ℕ) (s t u : State) → Lower j s t → Begins t u → Lower 0 s u
 lower_begun j s t u g h = lower_then j 0 0 s t u g (begins_lower 0 0 t u u h (lower_none u)) (omega arith)
 
-pub begun_smaller : (j : ℕ) (s t u : State) → IsWithin s → Lower j s t → Begins t u → u.limit - u.begun < s.limit - s.begun
-begun_smaller j s t u within g h =
-    let now = h.within (g.within within) in
-    let a = g.begun in let b = g.limit in let c = h.begun in let d = h.limit in omega arith
+pub begun_smaller : (j : ℕ) (s t u : State) → Lower j s t → Begins t u → u.limit - u.begun < s.limit - s.begun
+begun_smaller j s t u g h = omega (arith, g.begun, g.limit, h.begun, h.limit, h.within)
 
 module _ {T : Type 0} (hear part : T → Record → T → Type 0) where
-  -- an expansion that can't begin
-  pub expand_stops : (t : Token) (m : MacroText) (e : Stop) (s new : State) (a : T) → Silent (begin s) (Err e) new → Follows hear part (expands t (Call m) s) (Err e) new a a
-  expand_stops t m e s new a h =
-      follows_of hear part (expands t (Call m) s) (expand total t (Call m) s) (Err e) new a a (gives_expand t (Call m) s)
-      (meets_stop hear part (begin s) _ e new a a (meets_silent hear part (begin s) (Err e) new a h))
+  abbrev Fetch : Result (Option Taken) Stop → Held → Held → ℕ → ℕ → T → T → Type 0
+  Fetch r old new f g a b = Did hear part (total.fetch (state_of old)) r old new f g a b
 
-  -- want of memory before anything was told
-  pub expand_out : (t : Token) (s new : State) (a : T) → Follows hear part (expands_token t s) (Err stop.NoMemory) new a a
-  expand_out t s new a =
-      follows_of hear part (expands_token t s) (expand_token (level 0) t s) (Err stop.NoMemory) new a a
-      (record { depth = 0; is = refl; decided = expand_token_decided (level 0) t s }) (part_untold hear part (expand_token (level 0) t s) a)
+  -- an expansion, by its parts
+  abbrev Expand : Token → Expandable → Result (Unit {0}) Stop → Held → Held → ℕ → ℕ → T → T → Type 0
+  Expand t e r old new f g a b = Did hear part (total.expand t e (state_of old)) r old new f g a b
 
-  -- an expansion of a token by its meaning
-  pub follows_token : (t : Token) (e : Expandable) (r : Result (Unit {0}) Stop) (s new : State) (a b : T) → expandable (meaning_of s.world t) ≡ Some e → Follows hear part (expands t e s) r new a b
-      → Follows hear part (expands_token t s) r new a b
-  follows_token t e r s new a b m g = record { answer = g.answer; given = gives_token t e s g.answer m g.given; meets = g.meets }
-
-  -- one that began, and whose arguments can't be read
-  pub expand_uncalled : (t : Token) (m : MacroText) (e : Stop) (s mid new : State) (a : T) → Silent (begin s) (Ok tt) mid → Silent (called m mid) (Err e) new → Follows hear part (expands t (Call m) s) (Err e) new a a
-  expand_uncalled t m e s mid new a h k =
-      follows_of hear part (expands t (Call m) s) (expand total t (Call m) s) (Err e) new a a (gives_expand t (Call m) s)
-      (meets_then hear part (begin s) _ tt mid (Err e) new a a a (meets_silent hear part (begin s) (Ok tt) mid a h)
-      (meets_stop hear part (called m mid) (finish t) e new a a (meets_silent hear part (called m mid) (Err e) new a k)))
-
-  -- one that began, and its end
-  pub expand_ends : (t : Token) (m : MacroText) (list : List Token) (r : Result (Unit {0}) Stop) (s mid now new : State) (a b : T) → Silent (begin s) (Ok tt) mid → Silent (called m mid) (Ok list) now
-      → Meets hear part (finish t list now) r new a b → Follows hear part (expands t (Call m) s) r new a b
-  expand_ends t m list r s mid now new a b h k f =
-      follows_of hear part (expands t (Call m) s) (expand total t (Call m) s) r new a b (gives_expand t (Call m) s)
-      (meets_then hear part (begin s) _ tt mid r new a a b (meets_silent hear part (begin s) (Ok tt) mid a h)
-      (meets_then hear part (called m mid) (finish t) list now r new a a b (meets_silent hear part (called m mid) (Ok list) now a k) f))
-
-  expand_meets : (t : Token) (e : Expandable) (r : Result (Unit {0}) Stop) (s new : State) (a b : T) → Follows hear part (expands t e s) r new a b → Meets hear part (expand total t e s) r new a b
-  expand_meets t e r s new a b g = subst (λ y. Meets hear part y r new a b) (sym (expand_given t e s g.answer g.given)) g.meets
-
-  -- what meets the answer from now on meets the whole answer
-  pub record FetchOnward (old : State) (a : T) (now : State) (b : T) : Type 0 where
-    pub first : IsWithin old
-    pub within : IsWithin now
-    pub on : (r : Result (Option Token) Stop) (new : State) (c : T) → Meets hear part (total.fetch now) r new b c → Meets hear part (total.fetch old) r new a c
-
-  pub onward_none : (s : State) (a : T) → IsWithin s → FetchOnward s a s a
-  onward_none s a within = record { first = within; within = within; on = λ r new c k. k }
-
-  follows_fetch : (r : Result (Option Token) Stop) (old now new : State) (a b c : T) → FetchOnward old a now b → Meets hear part (total.fetch now) r new b c → Follows hear part (fetches old) r new a c
-  follows_fetch r old now new a b c o h = follows_of hear part (fetches old) (total.fetch old) r new a c (gives_fetch old (total.fetch old) o.first refl) (o.on r new c h)
-
-  -- the front, and what is fetched by it
-  by_front : (f : Front) (r : Result (Option Token) Stop) (now mid new : State) (b c : T) → IsWithin now → Silent (front now) (Ok f) mid → Meets hear part (fetch_front total f mid) r new b c → Meets hear part (total.fetch now) r new b c
-  by_front f r now mid new b c within h k =
-      subst (λ y. Meets hear part y r new b c) (sym (fetch_is now within)) (meets_then hear part (front now) (fetch_front total) f mid r new b b c (meets_silent hear part (front now) (Ok f) mid b h) k)
-
-  pub fetch_stops_front : (e : Stop) (old now new : State) (a b : T) → FetchOnward old a now b → Silent (front now) (Err e) new → Follows hear part (fetches old) (Err e) new a b
-  fetch_stops_front e old now new a b o h =
-      follows_fetch (Err e) old now new a b b o
-      (subst (λ y. Meets hear part y (Err e) new b b) (sym (fetch_is now o.within)) (meets_stop hear part (front now) (fetch_front total) e new b b (meets_silent hear part (front now) (Err e) new b h)))
-
-  pub fetch_ends : (old now new : State) (a b : T) → FetchOnward old a now b → Silent (front now) (Ok Nothing) new → Follows hear part (fetches old) (Ok None) new a b
-  fetch_ends old now new a b o h =
-      follows_fetch (Ok None) old now new a b b o (by_front Nothing (Ok None) now new new b b o.within h (meets_silent hear part (give None new) (Ok None) new b refl))
-
-  pub fetch_plain : (t : Token) (old now new : State) (a b : T) → FetchOnward old a now b → Silent (front now) (Ok (Plain t)) new → Follows hear part (fetches old) (Ok (Some t)) new a b
-  fetch_plain t old now new a b o h =
-      follows_fetch (Ok (Some t)) old now new a b b o (by_front (Plain t) (Ok (Some t)) now new new b b o.within h (meets_silent hear part (give (Some t) new) (Ok (Some t)) new b refl))
-
-  pub fetch_onward : (t : Token) (e : Expandable) (old now mid new : State) (a b c : T) → FetchOnward old a now b → Silent (front now) (Ok (Expands t e)) mid → Follows hear part (expands t e mid) (Ok tt) new b c
-      → IsWithin new → FetchOnward old a new c
-  fetch_onward t e old now mid new a b c o h g within = record {
-    first = o.first;
-    within = within;
-    on = λ r z d k. o.on r z d (by_front (Expands t e) r now mid z b d o.within h
-        (meets_then hear part (expand total t e mid) (λ _. total.fetch) tt new r z b c d (expand_meets t e (Ok tt) mid new b c g) k));
-  }
-
-  pub fetch_stops_expand : (t : Token) (x : Expandable) (e : Stop) (old now mid new : State) (a b c : T) → FetchOnward old a now b → Silent (front now) (Ok (Expands t x)) mid → Follows hear part (expands t x mid) (Err e) new b c
-      → Follows hear part (fetches old) (Err e) new a c
-  fetch_stops_expand t x e old now mid new a b c o h g =
-      follows_fetch (Err e) old now new a b c o (by_front (Expands t x) (Err e) now mid new b c o.within h
-      (meets_stop hear part (expand total t x mid) (λ _. total.fetch) e new b c (expand_meets t x (Err e) mid new b c g)))
-
-  -- an engine that is fetching: it runs, it is sound, and what it meets from now on meets the whole answer
-  pub record Fetching (faults : T → ℕ) (old : Held) (a : T) (now : Held) (b : T) : Type 0 where
+  -- an engine that fetches: what it does from now on is what the whole does
+  pub record Fetching (old : Held) (f : ℕ) (a : T) (now : Held) (g : ℕ) (b : T) : Type 0 where
     pub running : now.stop ≡ None
-    pub kept : Kept old now
-    pub onward : FetchOnward (state_of old) a (state_of now) b
-    pub tells : faults b ≡ faults a
-    pub progress : Progress old now
+    pub sound : Sound now
     pub lower : Lower 0 (state_of old) (state_of now)
+    pub on : (r : Result (Option Taken) Stop) (new : Held) (h : ℕ) (c : T) → Fetch r now new g h b c → Fetch r old new f h a c
+
+  pub fetching_none : (h : Held) (f : ℕ) (a : T) → h.stop ≡ None → Sound h → Fetching h f a h f a
+  fetching_none h f a running sound = record { running = running; sound = sound; lower = lower_none (state_of h); on = λ r new g c d. d }
+
+  -- the front is taken
+  pub front_did : (x y : FrontCode) (old new : Held) (f : ℕ) (a : T) → x ≡ y → front (state_of old) ≡ Done (front_at new.names x) (state_of new) nothing → new.stop ≡ None → Kept old new → Progress old new
+      → Did hear part (front (state_of old)) (Ok (front_at new.names y)) old new f f a a
+  front_did x y old new f a e is kept keeps progress = did_silent hear part (front (state_of old)) (Ok (front_at new.names y)) old new f a (is ∙ ap (λ z. Done (front_at new.names z) (state_of new) nothing) e) kept tt keeps progress
+
+  -- what is fetched by the front
+  by_front : (x : Front) (r : Result (Option Taken) Stop) (now mid new : Held) (g h : ℕ) (b c : T) → Did hear part (front (state_of now)) (Ok x) now mid g g b b → Did hear part (fetch_front total x (state_of mid)) r mid new g h b c
+      → Fetch r now new g h b c
+  by_front x r now mid new g h b c d e =
+      did_as hear part _ _ r now new g h b c (fetch_is (state_of now)) (did_then hear part (front (state_of now)) (fetch_front total) x r now mid new g g h b b c d e)
+
+  front_stops : (e : Stop) (now new : Held) (g : ℕ) (b : T) → Did hear part (front (state_of now)) (Err e) now new g g b b → Fetch (Err e) now new g g b b
+  front_stops e now new g b d = did_as hear part _ _ (Err e) now new g g b b (fetch_is (state_of now)) (did_stop hear part (front (state_of now)) (fetch_front total) e now new g g b b d)
+
+  pub fetch_does : (r : Result (Option Taken) Stop) (old now new : Held) (f g h : ℕ) (a b c : T) → Fetching old f a now g b → Fetch r now new g h b c → Does hear part (λ n. (level n).fetch) r old new f h a c
+  fetch_does r old now new f g h a b c i d = does_of hear part (λ c. c.fetch) lawful_fetch r old new f h a c (i.on r new h c d)
+
+  pub fetch_stops : (e : Stop) (old now new : Held) (f g : ℕ) (a b : T) → Fetching old f a now g b → Did hear part (front (state_of now)) (Err e) now new g g b b → Does hear part (λ n. (level n).fetch) (Err e) old new f g a b
+  fetch_stops e old now new f g a b i d = fetch_does (Err e) old now new f g g a b b i (front_stops e now new g b d)
+
+  pub fetch_ends : (old now new : Held) (f g : ℕ) (a b : T) → Fetching old f a now g b → Did hear part (front (state_of now)) (Ok Nothing) now new g g b b → Does hear part (λ n. (level n).fetch) (Ok None) old new f g a b
+  fetch_ends old now new f g a b i d = fetch_does (Ok None) old now new f g g a b b i (by_front Nothing (Ok None) now new new g g b b d (did_now hear part None new g b d.keeps.sound d.stops.kept))
+
+  pub fetch_plain : (t : Taken) (old now new : Held) (f g : ℕ) (a b : T) → Fetching old f a now g b → Did hear part (front (state_of now)) (Ok (Plain t)) now new g g b b → Does hear part (λ n. (level n).fetch) (Ok (Some t)) old new f g a b
+  fetch_plain t old now new f g a b i d = fetch_does (Ok (Some t)) old now new f g g a b b i (by_front (Plain t) (Ok (Some t)) now new new g g b b d (did_now hear part (Some t) new g b d.keeps.sound d.stops.kept))
 
   -- behind one more expansion
-  pub fetching_on : (faults : T → ℕ) (t : Token) (e : Expandable) (old now mid new : Held) (a b c : T) → Fetching faults old a now b → Silent (front (state_of now)) (Ok (Expands t e)) (state_of mid)
-      → Lower 1 (state_of now) (state_of mid) → Kept now mid → Follows hear part (expands t e (state_of mid)) (Ok tt) (state_of new) b c → Stops {A = Unit {0}} (Ok tt) (outside 0 (faults b)) (outside 0 (faults c)) new.stop
-      → Begins (state_of mid) (state_of new) → Progress now mid → Progress mid new → Kept mid new → Fetching faults old a new c
-  fetching_on faults t e old now mid new a b c f h less keeps g stops begins on further kept = record {
-    running = stops.kept;
-    kept = kept_then old now new f.kept (kept_then now mid new keeps kept);
-    onward = fetch_onward t e (state_of old) (state_of now) (state_of mid) (state_of new) a b c f.onward h g (begins.within (less.within f.onward.within));
-    tells = stops.tells ∙ f.tells;
-    progress = progress_then old now new f.progress (progress_then now mid new on further);
-    lower = lower_begun 1 (state_of old) (state_of mid) (state_of new) (lower_then 0 1 1 (state_of old) (state_of now) (state_of mid) f.lower less (omega arith)) begins;
+  pub fetching_on : (t : Token) (x : Expandable) (old now mid new : Held) (f g h : ℕ) (a b c : T) → Fetching old f a now g b → Did hear part (front (state_of now)) (Ok (Expands t x)) now mid g g b b → Lower 1 (state_of now) (state_of mid)
+      → Does hear part (λ n. (level n).expand t x) (Ok tt) mid new g h b c → Begins (state_of mid) (state_of new) → Fetching old f a new h c
+  fetching_on t x old now mid new f g h a b c i d low e begins = record {
+    running = e.stops.kept;
+    sound = e.keeps.sound;
+    lower = lower_begun 1 (state_of old) (state_of mid) (state_of new) (lower_then 0 1 1 (state_of old) (state_of now) (state_of mid) i.lower low (omega arith)) begins;
+    on = λ r z k y u. i.on r z k y (by_front (Expands t x) r now mid z g k b y d
+        (did_then hear part (total.expand t x (state_of mid)) (λ _. total.fetch) tt r mid new z g h k b c y (did_of hear part (λ c. c.expand t x) (lawful_expand t x) (Ok tt) mid new g h b c e) u));
   }
+
+  pub fetch_unexpanded : (t : Token) (x : Expandable) (e : Stop) (old now mid new : Held) (f g h : ℕ) (a b c : T) → Fetching old f a now g b → Did hear part (front (state_of now)) (Ok (Expands t x)) now mid g g b b
+      → Does hear part (λ n. (level n).expand t x) (Err e) mid new g h b c → Does hear part (λ n. (level n).fetch) (Err e) old new f h a c
+  fetch_unexpanded t x e old now mid new f g h a b c i d k =
+      fetch_does (Err e) old now new f g h a b c i (by_front (Expands t x) (Err e) now mid new g h b c d
+      (did_stop hear part (total.expand t x (state_of mid)) (λ _. total.fetch) e mid new g h b c (did_of hear part (λ c. c.expand t x) (lawful_expand t x) (Err e) mid new g h b c k)))
+
+  -- expanding
+  expand_does : (t : Token) (x : Expandable) (r : Result (Unit {0}) Stop) (old new : Held) (f g : ℕ) (a b : T) → Did hear part (expand_by total t x (state_of old)) r old new f g a b → Does hear part (λ n. (level n).expand t x) r old new f g a b
+  expand_does t x r old new f g a b d = does_of hear part (λ c. c.expand t x) (lawful_expand t x) r old new f g a b (did_as hear part _ _ r old new f g a b (expand_is t x (state_of old)) d)
+
+  pub expand_stops : (t : Token) (x : Expandable) (e : Stop) (old new : Held) (f : ℕ) (a : T) → Did hear part (begin (state_of old)) (Err e) old new f f a a → Does hear part (λ n. (level n).expand t x) (Err e) old new f f a a
+  expand_stops t x e old new f a d = expand_does t x (Err e) old new f f a a (did_stop hear part (begin (state_of old)) _ e old new f f a a d)
+
+  pub expand_ungiven : (t : Token) (x : Expandable) (e : Stop) (old mid new : Held) (f g : ℕ) (a b : T) → Did hear part (begin (state_of old)) (Ok tt) old mid f f a a → Does hear part (λ n. given (level n) x) (Err e) mid new f g a b
+      → Does hear part (λ n. (level n).expand t x) (Err e) old new f g a b
+  expand_ungiven t x e old mid new f g a b d k =
+      expand_does t x (Err e) old new f g a b (did_then hear part (begin (state_of old)) _ tt (Err e) old mid new f f g a a b d
+      (did_stop hear part (given total x (state_of mid)) (finish t) e mid new f g a b (did_of hear part (λ c. given c x) (lawful_given x) (Err e) mid new f g a b k)))
+
+  pub expand_ends : (t : Token) (x : Expandable) (list : List Token) (r : Result (Unit {0}) Stop) (old mid now new : Held) (f g h : ℕ) (a b c : T) → Did hear part (begin (state_of old)) (Ok tt) old mid f f a a
+      → Does hear part (λ n. given (level n) x) (Ok list) mid now f g a b → Did hear part (finish t list (state_of now)) r now new g h b c → Does hear part (λ n. (level n).expand t x) r old new f h a c
+  expand_ends t x list r old mid now new f g h a b c d k u =
+      expand_does t x r old new f h a c (did_then hear part (begin (state_of old)) _ tt r old mid new f f h a a c d
+      (did_then hear part (given total x (state_of mid)) (finish t) list r mid now new f g h a b c (did_of hear part (λ c. given c x) (lawful_given x) (Ok list) mid now f g a b k) u))
+
+  -- the same expansion
+  pub given_as : (x y : Expandable) (r : Result (List Token) Stop) (old new : Held) (f g : ℕ) (a b : T) → y ≡ x → Does hear part (λ n. given (level n) x) r old new f g a b → Does hear part (λ n. given (level n) y) r old new f g a b
+  given_as x y r old new f g a b e d = subst (λ z. Does hear part (λ n. given (level n) z) r old new f g a b) (sym e) d
+
+  -- an expansion begins
+  pub begins_did : (r : Result (Unit {0}) Stop) (old new : Held) (f : ℕ) (a : T) → Sound old → Silent (begin (state_of old)) r (state_of new) → new.stop ≡ stop_after r → OnOk r (new ≡ record old { begun = old.begun + 1; nesting = old.nesting + 1 })
+      → OnOk r (new.begun ≤ new.limit) → IsAtLimit r new → Progress old new → Did hear part (begin (state_of old)) r old new f f a a
+  begins_did (Ok tt) old new f a sound is kept same fits limit progress = did_silent hear part (begin (state_of old)) (Ok tt) old new f a is kept limit (begun_kept old new same fits sound) progress
+  begins_did (Err e) old new f a sound is kept same fits limit progress = did_silent hear part (begin (state_of old)) (Err e) old new f a is kept limit tt progress
+
+  -- and ends
+  pub finish_did : (t u : Token) (list : List TokenCode) (r : Result (Unit {0}) Stop) (old new : Held) (f g : ℕ) (a b : T) → Sound old → TokensWithin (length old.names) list → u ≡ t → Meets hear part (finish u (tokens_at old.names list) (state_of old)) r (state_of new) a b
+      → Stops r (outside 0 f) (outside 0 g) new.stop → OnOk r (new ≡ record old { items = map Tok list ++ old.items; nesting = old.nesting - 1 }) → IsAtLimit r new → Progress old new → Did hear part (finish t (tokens_at old.names list) (state_of old)) r old new f g a b
+  finish_did t u list r old new f g a b sound within e meets stops is limit progress = record {
+    meets = subst (λ x. Meets hear part (finish x (tokens_at old.names list) (state_of old)) r (state_of new) a b) e meets;
+    stops = stops;
+    limit = limit;
+    keeps = finished_kept old new list r is sound within;
+    progress = progress;
+  }
+
+  -- the same index
+  pub index_as : (x y : Index) (r : Result ℕ Stop) (old new : Held) (f g : ℕ) (a b : T) → y ≡ x → Does hear part (λ n. read_index (level n) x) r old new f g a b → Does hear part (λ n. read_index (level n) y) r old new f g a b
+  index_as x y r old new f g a b e d = subst (λ z. Does hear part (λ n. read_index (level n) z) r old new f g a b) (sym e) d
+
+  -- the same way to look
+  pub looked_as : (x y : Bool) (r : Result (Option Looked) Stop) (old new : Held) (f g : ℕ) (a b : T) → y ≡ x → Does hear part (λ n. next_looked (level n) x) r old new f g a b → Does hear part (λ n. next_looked (level n) y) r old new f g a b
+  looked_as x y r old new f g a b e d = subst (λ z. Does hear part (λ n. next_looked (level n) z) r old new f g a b) (sym e) d

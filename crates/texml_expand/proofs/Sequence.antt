@@ -1,5 +1,5 @@
 -- One silent reading after the other.
-use Rattle.std.proofs.Common.{◌≡◌, Result, Ok, Err, refl, sym, ap, ◌∙◌, subst}
+use Rattle.std.proofs.Common.{◌≡◌, Result, Err, sym, ap, ◌∙◌, subst}
 use Rattle.texml_expand.specs.declared.stop.Stop.{Stop}
 use Rattle.texml_expand.specs.declared.stop.Stop.TheVariants as stop
 use Rattle.texml_expand.specs.State.{State, nothing, Answer, Done, Reading, chain}
@@ -17,7 +17,3 @@ silent_stops x f (stop.Limit n) s t h = ap (λ a. chain a f) h
 silent_stops x f stop.ReadFailed s t h = absurd h
 silent_stops x f stop.TellFailed s t h = absurd h
 silent_stops x f stop.NoMemory s t h = tt
-
--- the value changes alone
-pub silent_map : {A B : Type 0} (x : Answer A) (f : A → B) (v : A) (s : State) → x ≡ Done v s nothing → chain x (λ a t. Done (f a) t nothing) ≡ Done (f v) s nothing
-silent_map x f v s e = ap (λ a. chain a (λ a t. Done (f a) t nothing)) e

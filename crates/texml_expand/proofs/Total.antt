@@ -1,59 +1,96 @@
--- The one answer of fetching, and the equation that it meets. The proofs of code speak of these.
-use Rattle.std.proofs.Common.{◌≡◌, ◌+◌, ◌-◌, ℕ, zero, suc, Option, Some, sym, ap, ◌∙◌, subst, arith}
+-- The one answer of each call, and the equation that it meets. The proofs of code speak of these.
+use Rattle.std.proofs.Common.{◌≡◌, ℕ, zero, suc, List, sym, ◌∙◌, subst}
 use Rattle.texml_token.specs.Token.{Token}
+use Rattle.texml_scan.specs.Grammar.{Remainder}
 use Rattle.texml_expand.specs.State.{State, Answer, IsDecided}
-use Rattle.texml_expand.specs.Expand.{Calls, Expandable, meaning_of, expandable, expand, expand_as, fetch_by, level, fetches, expands, expands_token}
-use Rattle.texml_expand.specs.Contract.{DecidesOn}
-use Rattle.texml_expand.proofs.Order.{GrowsCalls, IsWithin, within_closed, Mono, fetches_mono, fetch_grows, expand_grows}
-use Rattle.texml_expand.proofs.Settle.{settles, expand_decided}
-
--- two depths that decide agree
-pub agree : {A : Type 0} (r : ℕ → Answer A) → Mono r → (n m : ℕ) → IsDecided (r n) → IsDecided (r m) → r n ≡ r m
-agree r mono n m d e = sym ((mono.grows n (n + m) (omega arith)).same d) ∙ (mono.grows m (n + m) (omega arith)).same e
-
--- a depth that decides
-pub depth : State → ℕ
-depth s = suc (s.limit - s.begun)
+use Rattle.texml_expand.specs.Calls.{Expandable, Seen, Calls}
+use Rattle.texml_expand.specs.Quantities.{scan_by}
+use Rattle.texml_expand.specs.Expand.{expand_by, fetch_by, level}
+use Rattle.texml_expand.specs.Contract.{DecidesOn, Lower}
+use Rattle.texml_expand.proofs.Leading.{Leads}
+use Rattle.texml_expand.proofs.Readings.{Mono, Settles, agree}
+use Rattle.texml_expand.proofs.Lawful.{By, GrowsCalls, CallsFall, Lawful, lawful_mono}
+use Rattle.texml_expand.proofs.Levels.{levels, expand_grows, fetch_grows, scan_grows}
+use Rattle.texml_expand.proofs.Settle.{settles}
 
 pub total : Calls
-total = record { fetch = λ s. fetches s (depth s) }
+total = record {
+  fetch = λ s. (level (settles s).fetch.at).fetch s;
+  expand = λ t e s. (level ((settles s).expand t e).at).expand t e s;
+  scan = λ r seen s. (level ((settles s).scan r seen).at).scan r seen s;
+}
 
-pub decides : (s : State) → IsWithin s → IsDecided (fetches s (depth s))
-unfolding depth
-decides s within = settles (s.limit - s.begun) s within (omega arith)
+fetch_mono : (s : State) → Mono (λ n. (level n).fetch s)
+fetch_mono s = record { grows = λ n m le. (levels.grow n m le).fetch s }
 
-pub fetch_decided : (s : State) → IsWithin s → IsDecided (total.fetch s)
+expand_mono : (t : Token) (e : Expandable) (s : State) → Mono (λ n. (level n).expand t e s)
+expand_mono t e s = record { grows = λ n m le. (levels.grow n m le).expand t e s }
+
+scan_mono : {V : Type 0} (r : Remainder V) (seen : List Seen) (s : State) → Mono (λ n. (level n).scan r seen s)
+scan_mono r seen s = record { grows = λ n m le. (levels.grow n m le).scan r seen s }
+
+pub level_total : (n : ℕ) → GrowsCalls (level n) total
 unfolding total
-fetch_decided s within = decides s within
+level_total n = record {
+  fetch = λ s. record { same = λ d. let h = (settles s).fetch in agree (λ n. (level n).fetch s) (fetch_mono s) h.at n h.decided d };
+  expand = λ t e s. record { same = λ d. let h = (settles s).expand t e in agree (λ n. (level n).expand t e s) (expand_mono t e s) h.at n h.decided d };
+  scan = λ r seen s. record { same = λ d. let h = (settles s).scan r seen in agree (λ n. (level n).scan r seen s) (scan_mono r seen s) h.at n h.decided d };
+}
 
-pub level_total : (n : ℕ) → GrowsCalls IsWithin (level n) total
+-- each call is its own step
+
+fetch_at : (n : ℕ) (s : State) → IsDecided ((level n).fetch s) → (level n).fetch s ≡ fetch_by total s
+fetch_at zero s d = absurd d
+fetch_at (suc n) s d = sym ((fetch_grows (level n) total (level_total n) s).same d)
+
+pub fetch_is : (s : State) → total.fetch s ≡ fetch_by total s
 unfolding total
-level_total n = record { fetch = λ s within. record { same = λ d. agree (fetches s) (fetches_mono s) (depth s) n (decides s within) d } }
+fetch_is s = let h = (settles s).fetch in fetch_at h.at s h.decided
 
-fetch_at : (n : ℕ) (s : State) → IsWithin s → IsDecided (fetches s n) → fetches s n ≡ fetch_by total s
-fetch_at zero s within d = absurd d
-fetch_at (suc n) s within d = sym ((fetch_grows IsWithin within_closed (level n) total (level_total n) s within).same d)
+expand_at : (n : ℕ) (t : Token) (e : Expandable) (s : State) → IsDecided ((level n).expand t e s) → (level n).expand t e s ≡ expand_by total t e s
+expand_at zero t e s d = absurd d
+expand_at (suc n) t e s d = sym ((expand_grows (level n) total (level_total n) t e s).same d)
 
--- fetching is its own step
-pub fetch_is : (s : State) → IsWithin s → total.fetch s ≡ fetch_by total s
+pub expand_is : (t : Token) (e : Expandable) (s : State) → total.expand t e s ≡ expand_by total t e s
 unfolding total
-fetch_is s within = fetch_at (depth s) s within (decides s within)
+expand_is t e s = let h = (settles s).expand t e in expand_at h.at t e s h.decided
+
+scan_at : {V : Type 0} (n : ℕ) (r : Remainder V) (seen : List Seen) (s : State) → IsDecided ((level n).scan r seen s) → (level n).scan r seen s ≡ scan_by total r seen s
+scan_at zero r seen s d = absurd d
+scan_at (suc n) r seen s d = sym ((scan_grows (level n) total (level_total n) r seen s).same d)
+
+pub scan_is : {V : Type 0} (r : Remainder V) (seen : List Seen) (s : State) → total.scan r seen s ≡ scan_by total r seen s
+unfolding total
+scan_is r seen s = let h = (settles s).scan r seen in scan_at h.at r seen s h.decided
+
+pub total_falls : CallsFall total
+unfolding total
+total_falls = record {
+  fetch = λ s. (levels.fall (settles s).fetch.at).fetch s;
+  expand = λ t e s. (levels.fall ((settles s).expand t e).at).expand t e s;
+  scan = λ r seen s. (levels.fall ((settles s).scan r seen).at).scan r seen s;
+}
 
 -- what some depth gives is the answer, and the answer is what some depth gives
-pub gives_fetch : (s : State) (a : Answer (Option Token)) → IsWithin s → total.fetch s ≡ a → DecidesOn (fetches s) a
-unfolding total
-gives_fetch s a within e = record { depth = depth s; is = e; decided = subst IsDecided e (decides s within) }
 
-pub fetch_given : (s : State) (a : Answer (Option Token)) → IsWithin s → DecidesOn (fetches s) a → total.fetch s ≡ a
-fetch_given s a within g = ((level_total g.depth).fetch s within).same (subst IsDecided (sym g.is) g.decided) ∙ g.is
+abbrev pub at_depth : {A : Type 0} → By A → State → ℕ → Answer A
+at_depth r s n = r (level n) s
 
--- an expansion, in the same sense
-pub gives_expand : (t : Token) (e : Expandable) (s : State) → DecidesOn (expands t e s) (expand total t e s)
-gives_expand t e s = record { depth = 0; is = sym ((expand_grows IsWithin within_closed (level 0) total (level_total 0) t e s).same (expand_decided (level 0) t e s)); decided = expand_decided total t e s }
+pub settles_at : {A : Type 0} (r : By A) → Lawful r → (s : State) → Settles (at_depth r s)
+settles_at r h s = h.settles levels s (λ t low. settles t)
 
-pub expand_given : (t : Token) (e : Expandable) (s : State) (a : Answer (Unit {0})) → DecidesOn (expands t e s) a → expand total t e s ≡ a
-expand_given t e s a g = (expand_grows IsWithin within_closed (level g.depth) total (level_total g.depth) t e s).same (subst IsDecided (sym g.is) g.decided) ∙ g.is
+pub mono_at : {A : Type 0} (r : By A) → Lawful r → (s : State) → Mono (at_depth r s)
+mono_at r h s = lawful_mono r h levels s
 
--- an expansion of a token that means this
-pub gives_token : (t : Token) (e : Expandable) (s : State) (a : Answer (Unit {0})) → expandable (meaning_of s.world t) ≡ Some e → DecidesOn (expands t e s) a → DecidesOn (expands_token t s) a
-gives_token t e s a m g = record { depth = g.depth; is = ap (λ x. expand_as (level g.depth) t x s) m ∙ g.is; decided = g.decided }
+pub answer_given : {A : Type 0} (r : By A) → Lawful r → (s : State) (a : Answer A) → DecidesOn (at_depth r s) a → r total s ≡ a
+answer_given r h s a g = (h.grows (level g.depth) total (level_total g.depth) s).same (subst IsDecided (sym g.is) g.decided) ∙ g.is
+
+pub gives_answer : {A : Type 0} (r : By A) → Lawful r → (s : State) → DecidesOn (at_depth r s) (r total s)
+gives_answer r h s =
+    let d = settles_at r h s in
+    let same = (h.grows (level d.at) total (level_total d.at) s).same d.decided in
+    record { depth = d.at; is = sym same; decided = subst IsDecided (sym same) d.decided }
+
+-- no more is left to be read behind it
+pub answer_falls : {A : Type 0} (r : By A) → Lawful r → (s : State) → Leads (λ v t. Lower 0 s t) (r total s)
+answer_falls r h s = h.falls total total_falls s

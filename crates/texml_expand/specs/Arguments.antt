@@ -1,6 +1,6 @@
 -- The arguments of a macro (The TeXbook, chapter 20).
-use Rattle.std.specs.Prelude.{ℕ, zero, suc, ◌-◌, ◌==◌, ◌&&◌, ◌||◌, Bool, false, true, List, [], ◌∷◌, ◌++◌, Option, None, Some, unwrap_or, flat_map, slice_index_or, if◌then◌else◌}
-use Rattle.texml_token.specs.Token.{Token, Char, Param, has_category}
+use Rattle.std.specs.Prelude.{ℕ, zero, suc, ◌-◌, ◌==◌, ◌&&◌, Bool, false, true, List, [], ◌∷◌, ◌++◌, Option, None, Some, unwrap_or, flat_map, slice_index_or, if◌then◌else◌}
+use Rattle.texml_token.specs.Token.{Token, Char, Param}
 use Rattle.texml_token.specs.declared.category.TheConstants.{SPACE, OTHER}
 use Rattle.texml_token.specs.declared.fault_code.TheConstants.{EXTRA_BRACE, RUNAWAY_PAR, MISMATCH}
 use Rattle.texml_scope.specs.Texts.{Meaning, World, MacroText}
@@ -13,8 +13,8 @@ use Rattle.texml_match.specs.Arguments.{argument, reading}
 use Rattle.texml_expand.specs.declared.feeding.Verdict.{Verdict}
 use Rattle.texml_expand.specs.declared.feeding.Verdict.TheVariants.{TooShort, Yields, Refuses}
 use Rattle.texml_expand.specs.Next.{Taken}
-use Rattle.texml_expand.specs.State.{State, room, Reading, ◌>>=◌, ◌>>◌, give, change}
-use Rattle.texml_expand.specs.Take.{take, back, meaning_of}
+use Rattle.texml_expand.specs.State.{room, Reading, ◌>>=◌, ◌>>◌, give, change}
+use Rattle.texml_expand.specs.Take.{take, back, means}
 use Rattle.texml_expand.specs.Least.{by_least}
 
 -- Lists of tokens, read at the front
@@ -36,13 +36,13 @@ read_by reader = by_least (λ list. decided_by (reader list))
 
 -- Spaces and signs
 
--- a space: a character of that category, or what means one
-abbrev pub means_space : Option Meaning → Bool
-means_space (Some (CharMeaning c category)) = category == SPACE
+-- a space by its meaning: a character of that category
+abbrev pub means_space : Meaning → Bool
+means_space (CharMeaning c category) = category == SPACE
 means_space m = false
 
 abbrev pub is_space : World → Token → Bool
-is_space w t = has_category SPACE t || means_space (meaning_of w t)
+is_space w t = means_space (means w t)
 
 -- the token itself, or where it is a space what follows it
 abbrev pub past_space : Reading (Option Taken) → Option Taken → Reading (Option Taken)

@@ -82,17 +82,17 @@ IsFaultAt code about place stop.ReadFailed = ⊥
 IsFaultAt code about place stop.TellFailed = ⊥
 IsFaultAt code about place stop.NoMemory = Unit {0}
 
--- t comes after s, and where no expansion began there is less left to read by k
+-- t comes after s, and where no expansion began there is less left to read by k; no more begin than may
 pub record Lower (k : ℕ) (s t : State) : Type 0 where
   pub limit : t.limit ≡ s.limit
   pub nesting : t.nesting ≡ s.nesting
   pub begun : s.begun ≤ t.begun
   pub size : t.begun ≡ s.begun → room t + k ≤ room s
-  pub within : s.begun ≤ s.limit → t.begun ≤ t.limit
+  pub within : s.begun < t.begun → t.begun ≤ t.limit
 
--- an expansion began between s and t
+-- an expansion began between s and t, and no more than may
 pub record Begins (s t : State) : Type 0 where
   pub limit : t.limit ≡ s.limit
   pub nesting : t.nesting ≡ s.nesting
   pub begun : s.begun < t.begun
-  pub within : s.begun ≤ s.limit → t.begun ≤ t.limit
+  pub within : t.begun ≤ t.limit

@@ -3,7 +3,7 @@ use Rattle.std.specs.Prelude.{◌≡◌, ◌<◌, ◌-◌, ◌+◌, ℕ, List, [
 use Rattle.std.specs.List.{count_by}
 use Rattle.texml_token.specs.Token.{Token, has_category}
 use Rattle.texml_token.specs.declared.category.TheConstants.{BEGIN_GROUP, END_GROUP}
-use Rattle.texml_token.specs.Numbers.{Table, Numbered, Extends, tokens_at, TokensWithin}
+use Rattle.texml_token.specs.Numbers.{Table, Numbered, tokens_at, TokensWithin}
 use Rattle.texml_token.specs.declared.fault.Fault.{Fault}
 use Rattle.texml_token.specs.declared.tokens.Token.{Token as TokenCode}
 use Rattle.texml_expand.specs.declared.stop.Stop.{Stop}

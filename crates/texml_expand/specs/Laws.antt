@@ -1,15 +1,32 @@
--- What holds of fetching and expanding from every state.
-use Rattle.std.specs.Prelude.{◌≡◌, ◌≤◌, ℕ}
+-- What holds of fetching, expanding and reading from every state.
+use Rattle.std.specs.Prelude.{◌≡◌, ℕ, List}
 use Rattle.texml_token.specs.Token.{Token}
+use Rattle.texml_expand.specs.declared.variables.Index.{Index}
 use Rattle.texml_expand.specs.State.{State, IsDecided}
-use Rattle.texml_expand.specs.Expand.{fetches, expands_token}
+use Rattle.texml_expand.specs.Expand.{ByDepth, fetch, expand_once, read_int, read_dimen, read_glue, read_keyword, read_index}
 
--- some depth decides, where no more expansions are begun than may be
-pub record AlwaysDecide : Type 0 where
-  pub fetch : (s : State) → s.begun ≤ s.limit → (n : ℕ) × IsDecided (fetches s n)
-  pub expand : (t : Token) (s : State) → (n : ℕ) × IsDecided (expands_token t s n)
+-- from each state some depth decides
+abbrev pub Decides : {A : Type 0} → ByDepth A → Type 0
+Decides reading = (s : State) → (n : ℕ) × IsDecided (reading n s)
 
 -- and all depths that decide give the same
+abbrev pub Agrees : {A : Type 0} → ByDepth A → Type 0
+Agrees reading = (s : State) (n m : ℕ) → IsDecided (reading n s) → IsDecided (reading m s) → reading n s ≡ reading m s
+
+pub record AlwaysDecide : Type 0 where
+  pub fetch : Decides fetch
+  pub expand : (t : Token) → Decides (expand_once t)
+  pub int : Decides read_int
+  pub dimen : Decides read_dimen
+  pub glue : Decides read_glue
+  pub keyword : (word : List ℕ) → Decides (read_keyword word)
+  pub index : (i : Index) → Decides (read_index i)
+
 pub record DecideOnce : Type 0 where
-  pub fetch : (s : State) (n m : ℕ) → IsDecided (fetches s n) → IsDecided (fetches s m) → fetches s n ≡ fetches s m
-  pub expand : (t : Token) (s : State) (n m : ℕ) → IsDecided (expands_token t s n) → IsDecided (expands_token t s m) → expands_token t s n ≡ expands_token t s m
+  pub fetch : Agrees fetch
+  pub expand : (t : Token) → Agrees (expand_once t)
+  pub int : Agrees read_int
+  pub dimen : Agrees read_dimen
+  pub glue : Agrees read_glue
+  pub keyword : (word : List ℕ) → Agrees (read_keyword word)
+  pub index : (i : Index) → Agrees (read_index i)

@@ -5,6 +5,10 @@ pub mod State
 pub mod Take
 pub mod Least
 pub mod Arguments
+pub mod Calls
+pub mod Printed
+pub mod Variables
+pub mod Quantities
 pub mod Expand
 pub mod Absorb
 pub mod Held
@@ -16,4 +20,8 @@ pub mod Sources
 pub mod Turning
 pub mod Fronts
 pub mod Filling
+pub mod Doing
+pub mod VariableCodes
+pub mod Machine
+pub mod Scanning
 pub mod Feeding

@@ -1,5 +1,6 @@
 -- Tokens are taken and put back, and what a token means (The TeXbook, chapters 20 and 24).
 use Rattle.std.specs.Prelude.{ℕ, Bool, List, [], ◌∷◌, ◌++◌, map, Option, Some, None, pos, encode_utf8_all}
+use Rattle.std.specs.Option.{unwrap_or}
 use Rattle.texml_token.specs.Token.{Token, Char, Active, Param, Named, Fixed}
 use Rattle.texml_token.specs.declared.fault_code.TheConstants.{INVALID_CHAR}
 use Rattle.texml_token.specs.Spelling.{spelled}
@@ -7,6 +8,8 @@ use Rattle.texml_scope.specs.declared.values.KeyOf.TheVariants.{Name}
 use Rattle.texml_scope.specs.Texts.{Meaning, World}
 use Rattle.texml_scope.specs.Values.{meaning_in}
 use Rattle.texml_scope.specs.declared.values.KeyOf.TheVariants.{Active as ActiveKey}
+use Rattle.texml_scope.specs.declared.values.MeaningOf.TheVariants.{Undefined, Builtin, Char as CharMeaning}
+use Rattle.texml_scope.specs.declared.builtins.TheConstants.{RELAX}
 use Rattle.texml_expand.specs.Rest.{Tok, back_as}
 use Rattle.texml_expand.specs.Next.{Taken, Given, Got, AtEnd, Invalid, next}
 use Rattle.texml_expand.specs.Codes.{cats_of, end_of}
@@ -40,6 +43,16 @@ meaning_of w (Active c) = Some (meaning_in (w.top (ActiveKey c)))
 meaning_of w (Param n) = None
 meaning_of w (Named text) = Some (meaning_in (w.top (Name text)))
 meaning_of w Fixed = None
+
+-- what a token that has no key means by itself: a character that character, and the fixed \relax what \relax means at first
+abbrev pub own_meaning : Token → Meaning
+own_meaning (Char c category) = CharMeaning c category
+own_meaning Fixed = Builtin RELAX
+own_meaning t = Undefined
+
+-- what each token means
+abbrev pub means : World → Token → Meaning
+means w t = unwrap_or (meaning_of w t) (own_meaning t)
 
 -- how a token is spelled in faults and records: with the escape character \
 abbrev pub spelling : Token → List ℕ

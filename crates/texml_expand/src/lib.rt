@@ -5,7 +5,7 @@
 //! definition gives and tells of exactly the expansions that the definition adds, or stops it for a reason that the contract
 //! names, and a stopped engine answers its stop from then on. That the definitions have one answer in each state is a law
 //! of its own (laws.rt).
-//! It stands on texml_base, texml_token, texml_text, texml_mouth, texml_match, texml_scope and texml_watch.
+//! It stands on texml_base, texml_fixed, texml_token, texml_text, texml_mouth, texml_match, texml_scope, texml_scan and texml_watch.
 #![tactic(auto)]
 
 mod call;
@@ -13,13 +13,19 @@ mod codes;
 mod engine;
 mod feeding;
 mod group;
+mod internal;
 mod laws;
+mod machine;
+mod printed;
 mod rest;
 mod stop;
+mod variables;
 
 pub use codes::{ScopeCodes, end_character};
-pub use engine::{ESCAPE, Engine};
+pub use engine::{ESCAPE, Engine, Looked, means_space};
 pub use feeding::{Feeder, Verdict};
+pub use internal::Internal;
 pub use laws::{always_decides, decides_once};
 pub use rest::Read;
 pub use stop::Stop;
+pub use variables::{Index, LAST_REGISTER, Variable, index_of, key_of, variable_at};

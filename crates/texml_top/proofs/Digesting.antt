@@ -5,32 +5,34 @@ use Rattle.texml_token.specs.Numbers.{Table}
 use Rattle.texml_token.specs.declared.category.TheConstants as category
 use Rattle.texml_token.specs.declared.fault_code.TheConstants.{MISPLACED}
 use Rattle.texml_scope.specs.Texts.{Meaning}
-use Rattle.texml_scope.specs.declared.values.MeaningOf.TheVariants.{Builtin, Char as CharMeaning}
+use Rattle.texml_scope.specs.declared.values.MeaningOf.TheVariants.{Builtin, Char as CharMeaning, Number as NumberMeaning}
 use Rattle.texml_scope.specs.declared.values.KindOf.TheVariants.{Brace}
 use Rattle.texml_scope.specs.Numbers.{MeaningCode, meaning_at}
 use Rattle.texml_tree.specs.declared.ops.Op.{Op}
 use Rattle.texml_tree.specs.declared.ops.Op.TheVariants as op
 use Rattle.texml_expand.specs.State.{State, Reading, give, fail, chain}
 use Rattle.texml_expand.specs.Arguments.{read_optional}
-use Rattle.texml_expand.proofs.Falls.{level_leads}
 use Rattle.texml_assign.specs.declared.executing.Executed.{Executed}
 use Rattle.texml_assign.specs.declared.executing.Executed.TheVariants.{Yes, NotMine}
 use Rattle.texml_assign.specs.Loop.{ByDepth, Next, On, loops}
-use Rattle.texml_assign.specs.Meaning.{means}
+use Rattle.texml_expand.specs.Take.{means}
 use Rattle.texml_assign.specs.NewCommand.{starred}
 use Rattle.texml_assign.specs.Sets.{begin_kind, end_kind}
 use Rattle.texml_assign.specs.Execute.{execute}
 use Rattle.texml_assign.proofs.Readings.{Lawful, Plain, lawful_plain, lawful_then, lawful_by, plain_give, plain_fail, plain_if, plain_then}
 use Rattle.texml_assign.proofs.Looping.{LawfulLoop, lawful_loop}
-use Rattle.texml_assign.proofs.Commands.{plain_begin, plain_end, lawful_fetch, lawful_execute}
+use Rattle.texml_assign.proofs.Commands.{plain_begin, plain_end, lawful_execute}
+use Rattle.texml_assign.proofs.Quantities.{lawful_fetch, fetch_leads, lawful_index_of}
+use Rattle.texml_expand.specs.Expand.{read_index}
+use Rattle.texml_expand.specs.declared.variables.Index.TheVariants.{Character}
 use Rattle.texml_assign.proofs.NewCommands.{plain_starred, plain_optional}
 use Rattle.texml_top.specs.declared.table.TheConstants.{PARAGRAPH, BREAK, CODE}
 use Rattle.texml_top.specs.declared.digest.Word.{Word}
-use Rattle.texml_top.specs.declared.digest.Word.TheVariants.{ParagraphEnd, Space, Verb, Newline, Misplaced}
+use Rattle.texml_top.specs.declared.digest.Word.TheVariants.{ParagraphEnd, Space, CharNumber, Verb, Newline, Misplaced}
 use Rattle.texml_top.specs.declared.gather.Gathered.{Gathered}
 use Rattle.texml_top.specs.Gather.{nothing_yet, all_of, add_all}
 use Rattle.texml_top.specs.Verb.{verb}
-use Rattle.texml_top.specs.Digest.{none, is_text, digest_char, code, newline, word_at, digest_word, digest_meaning, digest_left, digest_token, digest_turn, digestion}
+use Rattle.texml_top.specs.Digest.{none, is_text, digest_char, char_text, char_number, code, newline, word_at, digest_word, digest_meaning, digest_left, digest_token, digest_turn, digestion}
 use Rattle.texml_top.proofs.Verbs.{lawful_verb}
 
 plain_none : (command : Reading (Unit {0})) → Plain command → Plain (none command)
@@ -70,23 +72,29 @@ plain_behind_star star = plain_then read_optional behind_bracket plain_optional 
 pub plain_newline : Plain newline
 plain_newline = plain_then starred behind_star plain_starred plain_behind_star
 
+pub lawful_char_number : Lawful char_number
+lawful_char_number = lawful_then (read_index Character) (λ c n. give (char_text c)) (lawful_index_of Character) (λ c. lawful_plain (give (char_text c)) (plain_give _))
+
 pub lawful_word : (word : Word) → Lawful (digest_word word)
 lawful_word ParagraphEnd = lawful_plain (give (op.CloseIf PARAGRAPH ∷ [])) (plain_give _)
 lawful_word Space = lawful_plain (give (op.Space ∷ [])) (plain_give _)
+lawful_word CharNumber = lawful_char_number
 lawful_word Verb = lawful_code
 lawful_word Newline = lawful_plain newline plain_newline
 lawful_word Misplaced = lawful_plain _ (plain_fail _ MISPLACED [])
 
 pub lawful_meaning : (m : Meaning) → Lawful (digest_meaning m)
 lawful_meaning (CharMeaning c category) = lawful_plain (digest_char c category) (plain_char c category)
+lawful_meaning (NumberMeaning c) = lawful_plain (give (char_text c)) (plain_give _)
 lawful_meaning (Builtin place) = lawful_word (word_at place)
 lawful_meaning m = lawful_plain _ (plain_fail _ MISPLACED [])
 
--- a meaning that is no character and no builtin may not stand where it is digested
-pub misplaced : (names : Table) (m : MeaningCode) (n : ℕ) (s : State) → ((c category : ℕ) → m ≡ CharMeaning c category → ⊥) → ((place : ℕ) → m ≡ Builtin place → ⊥) → digest_meaning (meaning_at names m) n s ≡ fail MISPLACED [] s
-misplaced names (CharMeaning c category) n s char builtin = absurd (char c category refl)
-misplaced names (Builtin place) n s char builtin = absurd (builtin place refl)
-misplaced names m n s char builtin = refl
+-- a meaning that is no character, no name for one and no builtin may not stand where it is digested
+pub misplaced : (names : Table) (m : MeaningCode) (n : ℕ) (s : State) → ((c category : ℕ) → m ≡ CharMeaning c category → ⊥) → ((c : ℕ) → m ≡ NumberMeaning c → ⊥) → ((place : ℕ) → m ≡ Builtin place → ⊥) → digest_meaning (meaning_at names m) n s ≡ fail MISPLACED [] s
+misplaced names (CharMeaning c category) n s char number builtin = absurd (char c category refl)
+misplaced names (NumberMeaning c) n s char number builtin = absurd (number c refl)
+misplaced names (Builtin place) n s char number builtin = absurd (builtin place refl)
+misplaced names m n s char number builtin = refl
 
 pub lawful_left : (t : Token) (done : Executed) → Lawful (digest_left t done)
 lawful_left t Yes = lawful_plain (give []) (plain_give [])
@@ -106,7 +114,7 @@ pub lawful_turn : (seen : Gathered) (t : Token) → Lawful (digest_turn seen t)
 lawful_turn seen t = lawful_then (digest_token t) (more_seen seen) (lawful_token t) (lawful_more seen)
 
 pub digestion_laws : LawfulLoop digestion
-digestion_laws = record { source = lawful_fetch; lowers = level_leads; turn = lawful_turn; end = λ seen. plain_give (all_of seen) }
+digestion_laws = record { source = lawful_fetch; lowers = fetch_leads; turn = lawful_turn; end = λ seen. plain_give (all_of seen) }
 
 pub lawful_digests : Lawful (loops digestion nothing_yet)
 lawful_digests = lawful_loop digestion digestion_laws nothing_yet

@@ -12,7 +12,6 @@ use Rattle.texml_expand.specs.declared.stop.Stop.{Stop}
 use Rattle.texml_expand.specs.declared.stop.Stop.TheVariants as stop
 use Rattle.texml_expand.specs.State.{State, End, Answer, Tex, Limit, Done, Ended, added}
 use Rattle.texml_expand.specs.Held.{Held, state_of, IsAtLimit}
-use Rattle.texml_expand.proofs.Order.{IsWithin}
 use Rattle.texml_expand.specs.Contract.{DecidesOn, ReadsBecause, TellsBecause}
 use Rattle.texml_expand.specs.Hearing.{HeardLast, MeetsEnd, MeetsFirst, MeetsCut, MeetsPart, Follows}
 use Rattle.texml_top.specs.Request.{Request, asked}
@@ -129,13 +128,13 @@ module _ {T : Type 0} (hear part : T → Record → T → Type 0) where
       record { all = all; is = is_from Convert s answer (Ended e m.gains) all g m.is refl; has = (refl, sym (inked-nil ink)) }
 
   -- nobody is told, so that telling can't fail
-  pub convert_stops : (e : Stop) (s new : State) (a b : T) (ink : Ink) → IsWithin s → TellsBecause {A = List Op} (Err e) 0 0 → Follows hear part (digests s) (Err e) new a b
+  pub convert_stops : (e : Stop) (s new : State) (a b : T) (ink : Ink) → TellsBecause {A = List Op} (Err e) 0 0 → Follows hear part (digests s) (Err e) new a b
       → FromState Convert s (λ all. MayEnd (stopped e) all ink ink)
-  convert_stops (stop.Tex f) s new a b ink w h g = convert_ends (Tex f) s a b ink g.answer g.given g.meets
-  convert_stops (stop.Limit n) s new a b ink w h g = convert_ends (Limit n) s a b ink g.answer g.given g.meets
-  convert_stops stop.ReadFailed s new a b ink w h g = from_any Convert s w _ (λ all. none_written all.bytes ink)
-  convert_stops stop.TellFailed s new a b ink w h g = absurd (omega (arith, h))
-  convert_stops stop.NoMemory s new a b ink w h g = from_any Convert s w _ (λ all. none_written all.bytes ink)
+  convert_stops (stop.Tex f) s new a b ink h g = convert_ends (Tex f) s a b ink g.answer g.given g.meets
+  convert_stops (stop.Limit n) s new a b ink h g = convert_ends (Limit n) s a b ink g.answer g.given g.meets
+  convert_stops stop.ReadFailed s new a b ink h g = from_any Convert s _ (λ all. none_written all.bytes ink)
+  convert_stops stop.TellFailed s new a b ink h g = absurd (omega (arith, h))
+  convert_stops stop.NoMemory s new a b ink h g = from_any Convert s _ (λ all. none_written all.bytes ink)
 
 pub silent_page : (e : Stop) (all : Outcome) → TellsBecause {A = List Op} (Err e) 0 0 → WritesPage Convert (stopped e) all
 silent_page (stop.Tex f) all h = tt

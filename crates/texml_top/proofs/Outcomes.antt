@@ -13,8 +13,7 @@ use Rattle.texml_top.specs.Outcome.{Outcome, refused, page_outcome, text_of, fir
 use Rattle.texml_tree.specs.declared.ops.Op.{Op}
 use Rattle.texml_top.specs.declared.status.Status.{Status}
 use Rattle.texml_top.specs.declared.status.Status.TheVariants as status
-use Rattle.texml_expand.proofs.Order.{IsWithin}
-use Rattle.texml_assign.proofs.Readings.{decides_at, decides_one}
+use Rattle.texml_expand.proofs.Readings.{decides_at, decides_one}
 use Rattle.texml_top.proofs.Digesting.{lawful_digests}
 
 -- the outcome that an answer of digestion makes
@@ -61,30 +60,29 @@ expand_records (Unfinished gains) d = absurd d
 pub is_from : (command : Command) (s : State) (a x : Answer (List Op)) (all : Outcome) → DecidesOn (digests s) a → a ≡ x → IsOutcomeBy command x all → IsOutcomeFrom command s all
 is_from command s a x all g e h = record { answer = a; given = g; is = subst (λ y. IsOutcomeBy command y all) (sym e) h }
 
--- the one answer of digestion, from a state in which no more expansions have begun than may
-pub answer_from : (s : State) → IsWithin s → Answer (List Op)
-answer_from s w = let h = lawful_digests.settles s w in digests s h.at
+-- the one answer of digestion
+pub answer_from : (s : State) → Answer (List Op)
+answer_from s = let h = lawful_digests.settles s in digests s h.at
 
-pub decides_from : (s : State) (w : IsWithin s) → DecidesOn (digests s) (answer_from s w)
+pub decides_from : (s : State) → DecidesOn (digests s) (answer_from s)
 unfolding answer_from
-decides_from s w = decides_at (digests s) (lawful_digests.settles s w)
+decides_from s = decides_at (digests s) (lawful_digests.settles s)
 
-pub outcome_from : Command → (s : State) → IsWithin s → Outcome
-outcome_from command s w = outcome_by command (answer_from s w)
+pub outcome_from : Command → (s : State) → Outcome
+outcome_from command s = outcome_by command (answer_from s)
 
-pub is_outcome_from : (command : Command) (s : State) (w : IsWithin s) → IsOutcomeFrom command s (outcome_from command s w)
+pub is_outcome_from : (command : Command) (s : State) → IsOutcomeFrom command s (outcome_from command s)
 unfolding outcome_from
-is_outcome_from command s w = is_from command s (answer_from s w) (answer_from s w) _ (decides_from s w) refl (is_by command (answer_from s w) (decides_from s w).decided)
+is_outcome_from command s = is_from command s (answer_from s) (answer_from s) _ (decides_from s) refl (is_by command (answer_from s) (decides_from s).decided)
 
-one_from : (command : Command) (s : State) (w : IsWithin s) (all : Outcome) → IsOutcomeFrom command s all → all ≡ outcome_from command s w
+one_from : (command : Command) (s : State) (all : Outcome) → IsOutcomeFrom command s all → all ≡ outcome_from command s
 unfolding outcome_from
-one_from command s w all h = one_by command h.answer all h.is ∙ ap (outcome_by command) (decides_one (digests s) (lawful_digests.mono s) h.answer (answer_from s w) h.given (decides_from s w))
+one_from command s all h = one_by command h.answer all h.is ∙ ap (outcome_by command) (decides_one (digests s) (lawful_digests.mono s) h.answer (answer_from s) h.given (decides_from s))
 
 one_of : (request : Request) (found : Result (List ℕ) Status) → (all : Outcome) × IsOutcomeOf request found all × ((other : Outcome) → IsOutcomeOf request found other → other ≡ all)
 one_of request (Ok text) =
     let s = first_state request.file request.limit text in
-    let w : IsWithin s = omega arith in
-    (outcome_from request.command s w, is_outcome_from request.command s w, one_from request.command s w)
+    (outcome_from request.command s, is_outcome_from request.command s, one_from request.command s)
 one_of request (Err s) = (refused s, refl, λ other e. e)
 
 one_asked : (r : Result Request ℕ) (contents : List ℕ → Option (List ℕ)) → (all : Outcome) × IsOutcomeAsked r contents all × ((other : Outcome) → IsOutcomeAsked r contents other → other ≡ all)
@@ -101,8 +99,8 @@ with_all Is Has all is h = record { all = all; is = is; has = h all }
 pub of_any : (words : List (List ℕ)) (contents : List ℕ → Option (List ℕ)) (Has : Outcome → Type 0) → ((all : Outcome) → Has all) → OfOutcome words contents Has
 of_any words contents Has h = let one = one_outcome words contents in with_all _ Has one.all one.is h
 
-pub from_any : (command : Command) (s : State) → IsWithin s → (Has : Outcome → Type 0) → ((all : Outcome) → Has all) → FromState command s Has
-from_any command s w Has h = with_all _ Has (outcome_from command s w) (is_outcome_from command s w) h
+pub from_any : (command : Command) (s : State) → (Has : Outcome → Type 0) → ((all : Outcome) → Has all) → FromState command s Has
+from_any command s Has h = with_all _ Has (outcome_from command s) (is_outcome_from command s) h
 
 pub with_weaker : {Is : Outcome → Type 0} {P : Outcome → Type 0} (Q : Outcome → Type 0) → ((all : Outcome) → P all → Q all) → WithOutcome Is P → WithOutcome Is Q
 with_weaker Q go w = record { all = w.all; is = w.is; has = go w.all w.has }

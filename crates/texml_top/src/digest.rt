@@ -12,15 +12,15 @@ ghost use Rattle.texml_assign.specs.Doing.{Does};
 ghost use Rattle.texml_assign.specs.Loop.{On, loops};
 ghost use Rattle.texml_assign.specs.declared.executing.Executed.TheVariants.{NotMine};
 ghost use Rattle.texml_top.specs.Gather.{nothing_yet, all_of, ops_of};
-ghost use Rattle.texml_top.specs.Digest.{digestion, digest_turn as spec_digest_turn, digest_token as spec_digest_token, digest_left as spec_digest_left, digest_meaning as spec_digest_meaning, word_at as spec_word_at, digest_word as spec_digest_word, digest_char as spec_digest_char, code as spec_code, newline as spec_newline};
+ghost use Rattle.texml_top.specs.Digest.{digestion, digest_turn as spec_digest_turn, digest_token as spec_digest_token, digest_left as spec_digest_left, digest_meaning as spec_digest_meaning, word_at as spec_word_at, digest_word as spec_digest_word, digest_char as spec_digest_char, code as spec_code, char_number as spec_char_number, newline as spec_newline};
 
 use crate::gather::{Gathered, Piece};
 use crate::verb::verb;
 use std::alloc::Global;
-use texml_assign::{Executed, begin_group, end_group, execute, meaning_of};
+use texml_assign::{Executed, begin_group, end_group, execute};
 use texml_base::Files;
-use texml_expand::{Engine, Stop};
-use texml_scope::builtins::{NEWLINE, PAR, SPACE, VERB};
+use texml_expand::{Engine, Index, Stop};
+use texml_scope::builtins::{CHAR, NEWLINE, PAR, SPACE, VERB};
 use texml_scope::{GroupKind, Meaning};
 use texml_token::{Token, category, fault_code};
 use texml_tree::Ops;
@@ -34,6 +34,7 @@ const STAR: u32 = 42;
 pub enum Word {
     ParagraphEnd,
     Space,
+    CharNumber,
     Verb,
     Newline,
     Misplaced,
@@ -147,7 +148,7 @@ fn digest_left<F: Files, T: Teller>(
         (outside (F.faults files.old) (T.faults tell.old)) (outside (F.faults files.new) (T.faults tell.new)) tell.old tell.new }
     ensures files { files.new ≡ files.old }
 {
-    let meaning = match meaning_of(engine, token) {
+    let meaning = match engine.means(token) {
         Ok(meaning) => meaning,
         Err(_) => return Err(engine.no_memory()),
     };
@@ -171,6 +172,7 @@ fn digest_meaning<F: Files, T: Teller>(
 {
     match meaning {
         Meaning::Char(code, category) => digest_char(engine, *code, *category),
+        Meaning::Number(code) => Ok(Piece::Char(char_of(*code))),
         Meaning::Builtin(place) => digest_word(alloc, engine, files, tell, word_at(*place)),
         _ => Err(engine.bare_fault(fault_code::MISPLACED)),
     }
@@ -218,6 +220,7 @@ fn digest_word<F: Files, T: Teller>(
     match word {
         Word::ParagraphEnd => Ok(Piece::ParagraphEnd),
         Word::Space => Ok(Piece::Space),
+        Word::CharNumber => char_number(engine, files, tell),
         Word::Verb => code(alloc, engine, files, tell),
         Word::Newline => newline(engine, files, tell),
         Word::Misplaced => Err(engine.bare_fault(fault_code::MISPLACED)),
@@ -231,10 +234,27 @@ fn word_at(place: u16) -> Word
     match place {
         PAR => Word::ParagraphEnd,
         SPACE => Word::Space,
+        CHAR => Word::CharNumber,
         VERB => Word::Verb,
         NEWLINE => Word::Newline,
         _ => Word::Misplaced,
     }
+}
+
+// Reads the number of a character.
+fn char_number<F: Files, T: Teller>(
+    engine: &mut Engine,
+    files: &mut F,
+    tell: &mut T,
+) -> Result<Piece, Stop>
+    requires running { engine.old.stop ≡ None }
+    requires sound { Sound engine.old }
+    ensures does { Does (hears T.wanting T.heard) (hears_part T.wanting T.part) spec_char_number (ok_at ops_of result) engine.old engine.new
+        (outside (F.faults files.old) (T.faults tell.old)) (outside (F.faults files.new) (T.faults tell.new)) tell.old tell.new }
+    ensures files { files.new ≡ files.old }
+{
+    let code = engine.read_index(files, tell, Index::Character)?;
+    Ok(Piece::Char(char_of(code)))
 }
 
 // Reads characters as they stand.

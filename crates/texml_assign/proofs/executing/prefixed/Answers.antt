@@ -2,7 +2,7 @@ use Rattle.std.proofs.Common.{Err, refl, sym, ◌∙◌, rules, arith}
 use Rattle.std.specs.Option.{option_map}
 use Rattle.texml_token.specs.Numbers.{token_at}
 use Rattle.texml_token.specs.declared.fault_code.TheConstants.{FILE_ENDED, BAD_PREFIX}
-use Rattle.texml_expand.specs.Expand.{level}
+use Rattle.texml_expand.specs.Expand.{fetch}
 use Rattle.texml_expand.specs.Hearing.{hears, hears_part}
 use Rattle.texml_assign.specs.declared.table.Command.{Command as CommandWord}
 use Rattle.texml_assign.specs.declared.table.Prefixes.{Prefixes}
@@ -15,20 +15,20 @@ use Rattle.texml_assign.proofs.executing.prefixed.Goals as goal
 pub returns-in_err-token-clause-does : goal.returns-in_err-token-clause-does
 returns-in_err-token-clause-does g c =
     let i = c.tokens.invariant in let run = i.going.running in let f = c.in_err-token.ensures in let mid = c.fetch.new.self in
-    let s = does_call (hears g.T.Teller.wanting g.T.Teller.heard) (hears_part g.T.Teller.wanting g.T.Teller.part) (λ n. (level n).fetch) (option_map (token_at mid.names)) (Err c.in_err-token.field-0.0) c.tokens.engine mid _ _ _ _ (f.follows run) (f.stops run) (f.limit run) tt f.progress in
+    let s = does_call (hears g.T.Teller.wanting g.T.Teller.heard) (hears_part g.T.Teller.wanting g.T.Teller.part) fetch (option_map (token_at mid.names)) (Err c.in_err-token.field-0.0) c.tokens.engine mid _ _ _ _ (f.follows run) (f.stops run) (f.limit run) tt f.progress in
     let h = goes_stops _ _ prefix_loop prefix_laws _ c.args.first c.tokens.prefixes _ _ _ _ _ _ _ _ _ i.going s in search (rules, h)
 
 pub returns-in-None-clause-does : goal.returns-in-None-clause-does
 returns-in-None-clause-does g c =
     let i = c.tokens.invariant in let run = i.going.running in let f = c.in_ok-token.ensures in let mid = c.fetch.new.self in
-    let s = rw c.in-None.is at (does_call (hears g.T.Teller.wanting g.T.Teller.heard) (hears_part g.T.Teller.wanting g.T.Teller.part) (λ n. (level n).fetch) (option_map (token_at mid.names)) _ c.tokens.engine mid _ _ _ _ (f.follows run) (f.stops run) tt (f.keeps run) f.progress) in
+    let s = rw c.in-None.is at (does_call (hears g.T.Teller.wanting g.T.Teller.heard) (hears_part g.T.Teller.wanting g.T.Teller.part) fetch (option_map (token_at mid.names)) _ c.tokens.engine mid _ _ _ _ (f.follows run) (f.stops run) tt (f.keeps run) f.progress) in
     goes_ends _ _ prefix_loop prefix_laws _ c.args.first c.tokens.prefixes _ _ mid c.bare_fault.new.self _ _ _ _ _ _ _ _ i.going s
     (does_fault _ _ (prefix_loop.end c.tokens.prefixes) (prefix_laws.end c.tokens.prefixes) FILE_ENDED c.bare_fault.result mid c.bare_fault.new.self _ _ refl c.bare_fault.ensures.is c.bare_fault.ensures.kept)
 
 pub returns-in-Ok-Command-clause-does : goal.returns-in-Ok-Command-clause-does
 returns-in-Ok-Command-clause-does g c =
     let i = c.tokens.invariant in let run = i.going.running in let f = c.in_ok-token.ensures in let mid = c.fetch.new.self in
-    let s = rw c.in-Some.is at (does_call (hears g.T.Teller.wanting g.T.Teller.heard) (hears_part g.T.Teller.wanting g.T.Teller.part) (λ n. (level n).fetch) (option_map (token_at mid.names)) _ c.tokens.engine mid _ _ _ _ (f.follows run) (f.stops run) tt (f.keeps run) f.progress) in
+    let s = rw c.in-Some.is at (does_call (hears g.T.Teller.wanting g.T.Teller.heard) (hears_part g.T.Teller.wanting g.T.Teller.part) fetch (option_map (token_at mid.names)) _ c.tokens.engine mid _ _ _ _ (f.follows run) (f.stops run) tt (f.keeps run) f.progress) in
     let t = token_at mid.names c.in-Some.token in let p = c.tokens.prefixes in
     let v : Prefixes × CommandWord = (p, c.in-Ok-Command.command) in
     goes_over _ _ prefix_loop prefix_laws t v c.args.first p _ _ mid mid _ _ _ _ _ _ _ _ i.going s
@@ -37,7 +37,7 @@ returns-in-Ok-Command-clause-does g c =
 pub returns-in-Ok-Misfit-clause-does : goal.returns-in-Ok-Misfit-clause-does
 returns-in-Ok-Misfit-clause-does g c =
     let i = c.tokens.invariant in let run = i.going.running in let f = c.in_ok-token.ensures in let mid = c.fetch.new.self in
-    let s = rw c.in-Some.is at (does_call (hears g.T.Teller.wanting g.T.Teller.heard) (hears_part g.T.Teller.wanting g.T.Teller.part) (λ n. (level n).fetch) (option_map (token_at mid.names)) _ c.tokens.engine mid _ _ _ _ (f.follows run) (f.stops run) tt (f.keeps run) f.progress) in
+    let s = rw c.in-Some.is at (does_call (hears g.T.Teller.wanting g.T.Teller.heard) (hears_part g.T.Teller.wanting g.T.Teller.part) fetch (option_map (token_at mid.names)) _ c.tokens.engine mid _ _ _ _ (f.follows run) (f.stops run) tt (f.keeps run) f.progress) in
     let t = token_at mid.names c.in-Some.token in let p = c.tokens.prefixes in
     goes_turn_stops _ _ prefix_loop prefix_laws t _ c.args.first p _ _ mid c.bare_fault-in-Ok-Misfit.new.self _ _ _ _ _ _ _ _ i.going s
     (does_fault _ _ (λ s. prefix_turn p t 0 s) (plain_prefix_turn p t) BAD_PREFIX c.bare_fault-in-Ok-Misfit.result mid c.bare_fault-in-Ok-Misfit.new.self _ _ (rw c.in-Ok-Misfit.field-0-is at c.in-Ok-Misfit.ensures)
@@ -46,7 +46,7 @@ returns-in-Ok-Misfit-clause-does g c =
 pub returns-in-Err-clause-does : goal.returns-in-Err-clause-does
 returns-in-Err-clause-does g c =
     let i = c.tokens.invariant in let run = i.going.running in let f = c.in_ok-token.ensures in let mid = c.fetch.new.self in
-    let s = rw c.in-Some.is at (does_call (hears g.T.Teller.wanting g.T.Teller.heard) (hears_part g.T.Teller.wanting g.T.Teller.part) (λ n. (level n).fetch) (option_map (token_at mid.names)) _ c.tokens.engine mid _ _ _ _ (f.follows run) (f.stops run) tt (f.keeps run) f.progress) in
+    let s = rw c.in-Some.is at (does_call (hears g.T.Teller.wanting g.T.Teller.heard) (hears_part g.T.Teller.wanting g.T.Teller.part) fetch (option_map (token_at mid.names)) _ c.tokens.engine mid _ _ _ _ (f.follows run) (f.stops run) tt (f.keeps run) f.progress) in
     let t = token_at mid.names c.in-Some.token in let p = c.tokens.prefixes in
     goes_turn_stops _ _ prefix_loop prefix_laws t _ c.args.first p _ _ mid c.no_memory.new.self _ _ _ _ _ _ _ _ i.going s
     (does_out _ _ (prefix_loop.turn p t) (prefix_laws.turn p t) c.no_memory.result mid c.no_memory.new.self _ _ s.keeps.sound c.no_memory.ensures.is c.no_memory.ensures.kept)
@@ -55,8 +55,8 @@ pub rounds-smaller : goal.rounds-smaller
 rounds-smaller g c =
     let i = c.tokens.invariant in let run = i.going.running in
     let l = rw c.in-Some.is at (c.in_ok-token.ensures.lower run) in
-    let w = l.within i.going.kept.sound.budget in
     let ne = c.if-begun.true in let is = c.begun.ensures in let begun = i.begun in let same = i.same in let limit = i.limit in let low = l.begun in let lim = l.limit in
+    let w = l.within (omega (arith, ne)) in
     omega (arith, ne)
 
 pub tokens-smaller : goal.tokens-smaller
@@ -69,7 +69,7 @@ tokens-smaller g c =
 pub rounds-preserved : goal.rounds-preserved
 rounds-preserved g c =
     let i = c.tokens.invariant in let run = i.going.running in let f = c.in_ok-token.ensures in let mid = c.fetch.new.self in
-    let s = rw c.in-Some.is at (does_call (hears g.T.Teller.wanting g.T.Teller.heard) (hears_part g.T.Teller.wanting g.T.Teller.part) (λ n. (level n).fetch) (option_map (token_at mid.names)) _ c.tokens.engine mid _ _ _ _ (f.follows run) (f.stops run) tt (f.keeps run) f.progress) in
+    let s = rw c.in-Some.is at (does_call (hears g.T.Teller.wanting g.T.Teller.heard) (hears_part g.T.Teller.wanting g.T.Teller.part) fetch (option_map (token_at mid.names)) _ c.tokens.engine mid _ _ _ _ (f.follows run) (f.stops run) tt (f.keeps run) f.progress) in
     let t = token_at mid.names c.in-Some.token in let p = c.tokens.prefixes in
     record {
       going = goes_on _ _ prefix_loop prefix_laws t c.args.first p c.in-Ok-Prefixes.more _ _ mid mid _ _ _ _ _ _ _ _ i.going s
@@ -80,7 +80,7 @@ rounds-preserved g c =
 pub tokens-preserved : goal.tokens-preserved
 tokens-preserved g c =
     let i = c.tokens.invariant in let run = i.going.running in let f = c.in_ok-token.ensures in let mid = c.fetch.new.self in
-    let s = rw c.in-Some.is at (does_call (hears g.T.Teller.wanting g.T.Teller.heard) (hears_part g.T.Teller.wanting g.T.Teller.part) (λ n. (level n).fetch) (option_map (token_at mid.names)) _ c.tokens.engine mid _ _ _ _ (f.follows run) (f.stops run) tt (f.keeps run) f.progress) in
+    let s = rw c.in-Some.is at (does_call (hears g.T.Teller.wanting g.T.Teller.heard) (hears_part g.T.Teller.wanting g.T.Teller.part) fetch (option_map (token_at mid.names)) _ c.tokens.engine mid _ _ _ _ (f.follows run) (f.stops run) tt (f.keeps run) f.progress) in
     let t = token_at mid.names c.in-Some.token in let p = c.tokens.prefixes in
     let l = rw c.in-Some.is at (f.lower run) in
     record {

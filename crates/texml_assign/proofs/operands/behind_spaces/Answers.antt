@@ -2,7 +2,7 @@ use Rattle.std.proofs.Common.{Some, true, false, refl, sym, ◌∙◌, rules, ar
 use Rattle.texml_token.specs.Numbers.{token_at}
 use Rattle.texml_token.specs.declared.fault_code.TheConstants.{FILE_ENDED}
 use Rattle.texml_expand.specs.Held.{state_of}
-use Rattle.texml_expand.proofs.Falls.{count}
+use Rattle.texml_expand.proofs.Leading.{count}
 use Rattle.texml_expand.proofs.Least.{Takes}
 use Rattle.texml_assign.specs.Loop.{On, Over}
 use Rattle.texml_assign.specs.Operands.{token_or_end, space_turn, spaces_loop}

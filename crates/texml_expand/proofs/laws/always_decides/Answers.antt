@@ -1,7 +1,23 @@
-use Rattle.texml_expand.specs.Expand.{level}
-use Rattle.texml_expand.proofs.Settle.{expand_token_decided}
-use Rattle.texml_expand.proofs.Total.{depth, decides}
+use Rattle.std.proofs.Common.{[]}
+use Rattle.texml_expand.specs.Laws.{Decides}
+use Rattle.texml_expand.specs.Quantities.{int_text, dimension_text, glue_text, keyword_text, read_index}
+use Rattle.texml_expand.specs.Expand.{level, fetched, expand_token}
+use Rattle.texml_expand.proofs.Lawful.{By, Lawful, lawful_scan}
+use Rattle.texml_expand.proofs.Looking.{lawful_index}
+use Rattle.texml_expand.proofs.Public.{lawful_fetched, lawful_expand_token}
+use Rattle.texml_expand.proofs.Total.{settles_at}
 use Rattle.texml_expand.proofs.laws.always_decides.Goals as goal
 
+decides : {A : Type 0} (r : By A) → Lawful r → Decides (λ n. r (level n))
+decides r h s = let d = settles_at r h s in (d.at, d.decided)
+
 pub returns : goal.returns
-returns c = record { fetch = λ s within. (depth s, decides s within); expand = λ t s. (0, expand_token_decided (level 0) t s) }
+returns c = record {
+  fetch = decides fetched lawful_fetched;
+  expand = λ t. decides (λ c. expand_token c t) (lawful_expand_token t);
+  int = decides (λ c. c.scan int_text []) (lawful_scan int_text);
+  dimen = decides (λ c. c.scan dimension_text []) (lawful_scan dimension_text);
+  glue = decides (λ c. c.scan glue_text []) (lawful_scan glue_text);
+  keyword = λ word. decides (λ c. c.scan (keyword_text word) []) (lawful_scan (keyword_text word));
+  index = λ i. decides (λ c. read_index c i) (lawful_index i);
+}

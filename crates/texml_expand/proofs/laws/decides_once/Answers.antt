@@ -1,7 +1,24 @@
-use Rattle.texml_expand.specs.Expand.{fetches, expands_token}
-use Rattle.texml_expand.proofs.Order.{fetches_mono, expands_token_mono}
-use Rattle.texml_expand.proofs.Total.{agree}
+use Rattle.std.proofs.Common.{[]}
+use Rattle.texml_expand.specs.Laws.{Agrees}
+use Rattle.texml_expand.specs.Quantities.{int_text, dimension_text, glue_text, keyword_text, read_index}
+use Rattle.texml_expand.specs.Expand.{level, fetched, expand_token}
+use Rattle.texml_expand.proofs.Lawful.{By, Lawful, lawful_scan}
+use Rattle.texml_expand.proofs.Looking.{lawful_index}
+use Rattle.texml_expand.proofs.Public.{lawful_fetched, lawful_expand_token}
+use Rattle.texml_expand.proofs.Readings.{agree}
+use Rattle.texml_expand.proofs.Total.{at_depth, mono_at}
 use Rattle.texml_expand.proofs.laws.decides_once.Goals as goal
 
+agrees : {A : Type 0} (r : By A) → Lawful r → Agrees (λ n. r (level n))
+agrees r h s = agree (at_depth r s) (mono_at r h s)
+
 pub returns : goal.returns
-returns c = record { fetch = λ s. agree (fetches s) (fetches_mono s); expand = λ t s. agree (expands_token t s) (expands_token_mono t s) }
+returns c = record {
+  fetch = agrees fetched lawful_fetched;
+  expand = λ t. agrees (λ c. expand_token c t) (lawful_expand_token t);
+  int = agrees (λ c. c.scan int_text []) (lawful_scan int_text);
+  dimen = agrees (λ c. c.scan dimension_text []) (lawful_scan dimension_text);
+  glue = agrees (λ c. c.scan glue_text []) (lawful_scan glue_text);
+  keyword = λ word. agrees (λ c. c.scan (keyword_text word) []) (lawful_scan (keyword_text word));
+  index = λ i. agrees (λ c. read_index c i) (lawful_index i);
+}

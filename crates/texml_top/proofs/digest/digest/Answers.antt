@@ -2,7 +2,8 @@ use Rattle.std.proofs.Common.{Err, refl, sym, subst, ◌∙◌, rules, arith}
 use Rattle.std.specs.Option.{option_map}
 use Rattle.texml_token.specs.Numbers.{token_at}
 use Rattle.texml_expand.specs.State.{give}
-use Rattle.texml_expand.specs.Expand.{level}
+use Rattle.texml_expand.specs.Expand.{fetch}
+use Rattle.texml_expand.proofs.Leading.{lower_then}
 use Rattle.texml_expand.specs.Held.{state_of}
 use Rattle.texml_expand.specs.Contract.{outside}
 use Rattle.texml_expand.specs.Hearing.{hears, hears_part}
@@ -27,20 +28,20 @@ rounds-init g c =
 pub returns-in_err-token-clause-does : goal.returns-in_err-token-clause-does
 returns-in_err-token-clause-does g c =
     let i = c.tokens.invariant in let run = i.going.running in let f = c.in_err-token.ensures in let mid = c.fetch.new.self in
-    let s = does_call (hears g.T.Teller.wanting g.T.Teller.heard) (hears_part g.T.Teller.wanting g.T.Teller.part) (λ n. (level n).fetch) (option_map (token_at mid.names)) (Err c.in_err-token.field-0.0) c.tokens.engine mid _ _ _ _ (f.follows run) (f.stops run) (f.limit run) tt f.progress in
+    let s = does_call (hears g.T.Teller.wanting g.T.Teller.heard) (hears_part g.T.Teller.wanting g.T.Teller.part) fetch (option_map (token_at mid.names)) (Err c.in_err-token.field-0.0) c.tokens.engine mid _ _ _ _ (f.follows run) (f.stops run) (f.limit run) tt f.progress in
     let h = goes_stops _ _ digestion digestion_laws _ nothing_yet c.tokens.seen _ _ _ _ _ _ _ _ _ i.going s in search (rules, h)
 
 pub returns-in-None-clause-does : goal.returns-in-None-clause-does
 returns-in-None-clause-does g c =
     let i = c.tokens.invariant in let run = i.going.running in let f = c.in_ok-token.ensures in let mid = c.fetch.new.self in let seen = c.tokens.seen in
-    let s = rw c.in-None.is at (does_call (hears g.T.Teller.wanting g.T.Teller.heard) (hears_part g.T.Teller.wanting g.T.Teller.part) (λ n. (level n).fetch) (option_map (token_at mid.names)) _ c.tokens.engine mid _ _ _ _ (f.follows run) (f.stops run) tt (f.keeps run) f.progress) in
+    let s = rw c.in-None.is at (does_call (hears g.T.Teller.wanting g.T.Teller.heard) (hears_part g.T.Teller.wanting g.T.Teller.part) fetch (option_map (token_at mid.names)) _ c.tokens.engine mid _ _ _ _ (f.follows run) (f.stops run) tt (f.keeps run) f.progress) in
     let e = c.end_of.ensures in let r = c.end_of.result in let new = c.end_of.new.engine in
     goes_ends _ _ digestion digestion_laws r nothing_yet seen _ _ mid new _ _ _ _ _ _ _ _ i.going s (does_silent _ _ (give (all_of seen)) (plain_give (all_of seen)) r mid new _ _ _ _ _ _ refl refl refl e.gives e.kept e.keeps e.advances)
 
 pub returns-in_err-digest_turn-clause-does : goal.returns-in_err-digest_turn-clause-does
 returns-in_err-digest_turn-clause-does g c =
     let i = c.tokens.invariant in let run = i.going.running in let f = c.in_ok-token.ensures in let mid = c.fetch.new.self in let seen = c.tokens.seen in
-    let s = rw c.in-Some.is at (does_call (hears g.T.Teller.wanting g.T.Teller.heard) (hears_part g.T.Teller.wanting g.T.Teller.part) (λ n. (level n).fetch) (option_map (token_at mid.names)) _ c.tokens.engine mid _ _ _ _ (f.follows run) (f.stops run) tt (f.keeps run) f.progress) in
+    let s = rw c.in-Some.is at (does_call (hears g.T.Teller.wanting g.T.Teller.heard) (hears_part g.T.Teller.wanting g.T.Teller.part) fetch (option_map (token_at mid.names)) _ c.tokens.engine mid _ _ _ _ (f.follows run) (f.stops run) tt (f.keeps run) f.progress) in
     let t = token_at mid.names c.in-Some.token in
     let h = goes_turn_stops _ _ digestion digestion_laws t _ nothing_yet seen _ _ mid _ _ _ _ _ _ _ _ _ i.going s c.in_err-digest_turn.ensures.does in
     search (rules, h)
@@ -48,18 +49,19 @@ returns-in_err-digest_turn-clause-does g c =
 pub rounds-smaller : goal.rounds-smaller
 rounds-smaller g c =
     let i = c.tokens.invariant in let run = i.going.running in let f = c.in_ok-token.ensures in let mid = c.fetch.new.self in let seen = c.tokens.seen in
-    let s = rw c.in-Some.is at (does_call (hears g.T.Teller.wanting g.T.Teller.heard) (hears_part g.T.Teller.wanting g.T.Teller.part) (λ n. (level n).fetch) (option_map (token_at mid.names)) _ c.tokens.engine mid _ _ _ _ (f.follows run) (f.stops run) tt (f.keeps run) f.progress) in
+    let s = rw c.in-Some.is at (does_call (hears g.T.Teller.wanting g.T.Teller.heard) (hears_part g.T.Teller.wanting g.T.Teller.part) fetch (option_map (token_at mid.names)) _ c.tokens.engine mid _ _ _ _ (f.follows run) (f.stops run) tt (f.keeps run) f.progress) in
     let t = token_at mid.names c.in-Some.token in
     let d = c.in_ok-digest_turn.ensures.does in let far = c.digest_turn.new.engine in let more = c.digest_turn.new.seen in
     let l = rw c.in-Some.is at (f.lower run) in let k = follows_lower _ _ (digest_turn seen t) (lawful_turn seen t) (On more) (state_of mid) (state_of far) _ _ d.follows in
-    let w = l.within i.going.kept.sound.budget in let v = k.within w in
-    let ne = c.if-begun.true in let is = c.begun.ensures in let begun = i.begun in let same = i.same in let limit = i.limit in let low = l.begun in let lim = l.limit in let low' = k.begun in let lim' = k.limit in
+    let both = lower_then 1 0 1 (state_of c.tokens.engine) (state_of mid) (state_of far) l k (omega arith) in
+    let ne = c.if-begun.true in let is = c.begun.ensures in let begun = i.begun in let same = i.same in let limit = i.limit in let low = both.begun in let lim = both.limit in
+    let w = both.within (omega (arith, ne)) in
     omega (arith, ne)
 
 pub tokens-smaller : goal.tokens-smaller
 tokens-smaller g c =
     let i = c.tokens.invariant in let run = i.going.running in let f = c.in_ok-token.ensures in let mid = c.fetch.new.self in let seen = c.tokens.seen in
-    let s = rw c.in-Some.is at (does_call (hears g.T.Teller.wanting g.T.Teller.heard) (hears_part g.T.Teller.wanting g.T.Teller.part) (λ n. (level n).fetch) (option_map (token_at mid.names)) _ c.tokens.engine mid _ _ _ _ (f.follows run) (f.stops run) tt (f.keeps run) f.progress) in
+    let s = rw c.in-Some.is at (does_call (hears g.T.Teller.wanting g.T.Teller.heard) (hears_part g.T.Teller.wanting g.T.Teller.part) fetch (option_map (token_at mid.names)) _ c.tokens.engine mid _ _ _ _ (f.follows run) (f.stops run) tt (f.keeps run) f.progress) in
     let t = token_at mid.names c.in-Some.token in
     let d = c.in_ok-digest_turn.ensures.does in let far = c.digest_turn.new.engine in let more = c.digest_turn.new.seen in
     let l = rw c.in-Some.is at (f.lower run) in let k = follows_lower _ _ (digest_turn seen t) (lawful_turn seen t) (On more) (state_of mid) (state_of far) _ _ d.follows in
@@ -70,7 +72,7 @@ tokens-smaller g c =
 pub rounds-preserved : goal.rounds-preserved
 rounds-preserved g c =
     let i = c.tokens.invariant in let run = i.going.running in let f = c.in_ok-token.ensures in let mid = c.fetch.new.self in let seen = c.tokens.seen in
-    let s = rw c.in-Some.is at (does_call (hears g.T.Teller.wanting g.T.Teller.heard) (hears_part g.T.Teller.wanting g.T.Teller.part) (λ n. (level n).fetch) (option_map (token_at mid.names)) _ c.tokens.engine mid _ _ _ _ (f.follows run) (f.stops run) tt (f.keeps run) f.progress) in
+    let s = rw c.in-Some.is at (does_call (hears g.T.Teller.wanting g.T.Teller.heard) (hears_part g.T.Teller.wanting g.T.Teller.part) fetch (option_map (token_at mid.names)) _ c.tokens.engine mid _ _ _ _ (f.follows run) (f.stops run) tt (f.keeps run) f.progress) in
     let t = token_at mid.names c.in-Some.token in
     let d = c.in_ok-digest_turn.ensures.does in let far = c.digest_turn.new.engine in let more = c.digest_turn.new.seen in
     record {
@@ -81,7 +83,7 @@ rounds-preserved g c =
 pub tokens-preserved : goal.tokens-preserved
 tokens-preserved g c =
     let i = c.tokens.invariant in let run = i.going.running in let f = c.in_ok-token.ensures in let mid = c.fetch.new.self in let seen = c.tokens.seen in
-    let s = rw c.in-Some.is at (does_call (hears g.T.Teller.wanting g.T.Teller.heard) (hears_part g.T.Teller.wanting g.T.Teller.part) (λ n. (level n).fetch) (option_map (token_at mid.names)) _ c.tokens.engine mid _ _ _ _ (f.follows run) (f.stops run) tt (f.keeps run) f.progress) in
+    let s = rw c.in-Some.is at (does_call (hears g.T.Teller.wanting g.T.Teller.heard) (hears_part g.T.Teller.wanting g.T.Teller.part) fetch (option_map (token_at mid.names)) _ c.tokens.engine mid _ _ _ _ (f.follows run) (f.stops run) tt (f.keeps run) f.progress) in
     let t = token_at mid.names c.in-Some.token in
     let d = c.in_ok-digest_turn.ensures.does in let far = c.digest_turn.new.engine in let more = c.digest_turn.new.seen in
     let l = rw c.in-Some.is at (f.lower run) in let k = follows_lower _ _ (digest_turn seen t) (lawful_turn seen t) (On more) (state_of mid) (state_of far) _ _ d.follows in

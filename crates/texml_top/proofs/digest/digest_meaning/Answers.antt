@@ -1,12 +1,12 @@
 use Rattle.std.proofs.Common.{[], Err, refl}
 use Rattle.texml_token.specs.declared.fault_code.TheConstants.{MISPLACED}
 use Rattle.texml_scope.specs.Numbers.{meaning_at}
-use Rattle.texml_expand.specs.State.{fail}
+use Rattle.texml_expand.specs.State.{fail, give}
 use Rattle.texml_expand.specs.Held.{Kept, state_of, ok_at}
-use Rattle.texml_assign.proofs.Readings.{plain_fail}
-use Rattle.texml_assign.proofs.Doing.{does_silent, does_fault, does_as, kept_of, keeps_of}
+use Rattle.texml_assign.proofs.Readings.{plain_fail, plain_give}
+use Rattle.texml_assign.proofs.Doing.{does_now, does_silent, does_fault, does_as, kept_of, keeps_of}
 use Rattle.texml_top.specs.Gather.{ops_of}
-use Rattle.texml_top.specs.Digest.{digest_char, digest_meaning}
+use Rattle.texml_top.specs.Digest.{char_text, digest_char, digest_meaning}
 use Rattle.texml_top.proofs.Digesting.{plain_char, misplaced}
 use Rattle.texml_top.proofs.digest.digest_meaning.Goals as goal
 
@@ -19,7 +19,11 @@ pub returns-in_default : goal.returns-in_default
 returns-in_default g c =
     let h = c.args.engine.now in let m = c.args.meaning.now in let new = c.bare_fault.new.self in let e = c.bare_fault.result in
     record {
-      does = does_as _ _ (digest_meaning (meaning_at h.names m)) (λ n. fail MISPLACED []) (Err e) h new _ _ _ _ (λ n. misplaced h.names m n (state_of h) c.in_default.not-Char c.in_default.not-Builtin)
+      does = does_as _ _ (digest_meaning (meaning_at h.names m)) (λ n. fail MISPLACED []) (Err e) h new _ _ _ _ (λ n. misplaced h.names m n (state_of h) c.in_default.not-Char c.in_default.not-Number c.in_default.not-Builtin)
           (does_fault _ _ (fail MISPLACED []) (plain_fail _ MISPLACED []) MISPLACED e h new _ _ refl c.bare_fault.ensures.is c.bare_fault.ensures.kept);
       files = refl;
     }
+
+pub returns-in-Number-clause-does : goal.returns-in-Number-clause-does
+returns-in-Number-clause-does g c =
+    rw (c.in-Number.is, c.char_of.ensures) (does_now _ _ (give (char_text c.in-Number.code)) (plain_give _) (char_text c.in-Number.code) c.args.engine.now _ _ c.requires.sound c.requires.running refl)

@@ -24,7 +24,7 @@ returns-in-Ok-clause-document g c = page_document _ _ _ _ c.write_page.ensures.e
 pub returns-in-Err-clause-meets : goal.returns-in-Err-clause-meets
 returns-in-Err-clause-meets g c =
     let d = c.in-Err.ensures.does in
-    rw c.from.ensures (convert_stops _ _ c.in-Err.stop _ _ _ _ (g.S.Sink.ink c.args.out.now) c.requires.sound.budget d.stops.tells d.follows)
+    rw c.from.ensures (convert_stops _ _ c.in-Err.stop _ _ _ _ (g.S.Sink.ink c.args.out.now) d.stops.tells d.follows)
 
 pub returns-in-Err-clause-files_cause : goal.returns-in-Err-clause-files_cause
 returns-in-Err-clause-files_cause g c = rw c.from.ensures (stop_files c.in-Err.stop _ _ c.in-Err.ensures.does.stops.reads)
@@ -36,7 +36,7 @@ pub returns-in-Err-clause-limit : goal.returns-in-Err-clause-limit
 returns-in-Err-clause-limit g c = let d = c.in-Err.ensures.does in rw c.from.ensures (stop_limit c.in-Err.stop _ _ d.limit d.advances.limit)
 
 pub returns-in-Err-clause-page : goal.returns-in-Err-clause-page
-returns-in-Err-clause-page g c = rw c.from.ensures (from_any _ _ c.requires.sound.budget _ (λ all. silent_page c.in-Err.stop all c.in-Err.ensures.does.stops.tells))
+returns-in-Err-clause-page g c = rw c.from.ensures (from_any _ _ _ (λ all. silent_page c.in-Err.stop all c.in-Err.ensures.does.stops.tells))
 
 pub returns-in-Err-clause-document : goal.returns-in-Err-clause-document
 returns-in-Err-clause-document g c = rw c.from.ensures (silent_document c.in-Err.stop _ _ c.in-Err.ensures.does.stops.tells)

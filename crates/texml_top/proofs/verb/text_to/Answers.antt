@@ -5,7 +5,7 @@ use Rattle.texml_token.specs.declared.fault_code.TheConstants.{FILE_ENDED}
 use Rattle.texml_expand.specs.State.{room}
 use Rattle.texml_expand.specs.Held.{Held, state_of}
 use Rattle.texml_expand.specs.Hearing.{hears, hears_part}
-use Rattle.texml_expand.proofs.Falls.{count}
+use Rattle.texml_expand.proofs.Leading.{count}
 use Rattle.texml_expand.proofs.Least.{Takes}
 use Rattle.texml_assign.specs.Loop.{On, Over}
 use Rattle.texml_assign.specs.Operands.{token_or_end}

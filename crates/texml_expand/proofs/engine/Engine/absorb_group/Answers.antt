@@ -2,7 +2,7 @@ use Rattle.texml_token.specs.Numbers.{tokens_at}
 use Rattle.texml_expand.specs.Held.{state_of}
 use Rattle.texml_expand.specs.Absorb.{absorbed}
 use Rattle.texml_expand.proofs.Fed.{feeds_silent}
-use Rattle.texml_expand.proofs.Groups.{group_agrees, group_first, group_within, absorb_lower}
+use Rattle.texml_expand.proofs.Groups.{group_agrees, group_within, absorb_lower}
 use Rattle.texml_expand.proofs.engine.Engine.absorb_group.Goals as goal
 
 pub returns-clause-absorbs : goal.returns-clause-absorbs

@@ -1,9 +1,9 @@
-use Rattle.std.proofs.Common.{Some, sym, ◌∙◌}
+use Rattle.std.proofs.Common.{sym, ◌∙◌}
 use Rattle.texml_expand.specs.Held.{state_of, read_at}
 use Rattle.texml_expand.proofs.Fronts.{kept_then}
 use Rattle.texml_expand.proofs.Progress.{progress_then, progress_stopped}
 use Rattle.texml_expand.proofs.Stopping.{passed_on}
-use Rattle.texml_expand.proofs.Spacing.{take_smaller, spacing_on, spacing_ends, spacing_found, spacing_stops}
+use Rattle.texml_expand.proofs.Spacing.{spacing_on, spacing_ends, spacing_found, spacing_stops}
 use Rattle.texml_expand.proofs.engine.Engine.behind_spaces.Goals as goal
 
 pub returns-in_err-read-clause-takes : goal.returns-in_err-read-clause-takes

@@ -1,5 +1,5 @@
-use Rattle.std.proofs.Common.{rules, arith, sym, ap, subst}
-use Rattle.texml_token.specs.Numbers.{Table, Extends, token_at}
+use Rattle.std.proofs.Common.{rules, arith, ap}
+use Rattle.texml_token.specs.Numbers.{token_at}
 use Rattle.texml_expand.specs.Held.{Held, state_of}
 use Rattle.texml_expand.proofs.Progress.{progress_then, progress_stopped}
 use Rattle.texml_expand.proofs.Fed.{inner_smaller, fed_by, feeding_stops, feeding_more, feeding_settled, feeding_refuses}

@@ -1,4 +1,4 @@
-use Rattle.std.proofs.Common.{[], ap, subst, sym, arith, ◌≡◌, ◌∙◌}
+use Rattle.std.proofs.Common.{[], ap, subst, sym, arith, ◌≡◌}
 use Rattle.texml_token.specs.Numbers.{Table, token_at}
 use Rattle.texml_match.specs.Reading.{Wants}
 use Rattle.texml_match.specs.Left.{left, Says, Reads}

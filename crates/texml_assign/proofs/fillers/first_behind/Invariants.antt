@@ -1,0 +1,32 @@
+use Rattle.std.proofs.Common.{◌≡◌, ◌-◌}
+use Rattle.texml_expand.specs.State.{room}
+use Rattle.texml_expand.specs.Held.{state_of}
+use Rattle.texml_expand.specs.Contract.{outside}
+use Rattle.texml_expand.specs.Hearing.{hears, hears_part}
+use Rattle.texml_assign.specs.Fillers.{filler_loop}
+use Rattle.texml_assign.proofs.Quantities.{filler_laws}
+use Rattle.texml_assign.proofs.Doing.{Goes}
+use Rattle.texml_assign.proofs.fillers.first_behind.Given as goal
+
+abbrev pub invariant-rounds : goal.invariant-rounds
+invariant-rounds g l = record {
+  going : Goes (hears g.T.Teller.wanting g.T.Teller.heard) (hears_part g.T.Teller.wanting g.T.Teller.part) (filler_loop l.fn.filler) (filler_laws l.fn.filler) tt l.fn.engine (outside (g.F.Files.faults l.fn.files) (g.T.Teller.faults l.fn.tell)) l.fn.tell
+      tt l.engine (outside (g.F.Files.faults l.files) (g.T.Teller.faults l.tell)) l.tell;
+  files : l.files ≡ l.fn.files;
+}
+
+abbrev pub decreases-rounds : goal.decreases-rounds
+decreases-rounds g l = l.engine.limit - l.engine.begun
+
+abbrev pub invariant-tokens : goal.invariant-tokens
+invariant-tokens g l = record {
+  going : Goes (hears g.T.Teller.wanting g.T.Teller.heard) (hears_part g.T.Teller.wanting g.T.Teller.part) (filler_loop l.fn.filler) (filler_laws l.fn.filler) tt l.fn.engine (outside (g.F.Files.faults l.fn.files) (g.T.Teller.faults l.fn.tell)) l.fn.tell
+      tt l.engine (outside (g.F.Files.faults l.files) (g.T.Teller.faults l.tell)) l.tell;
+  files : l.files ≡ l.fn.files;
+  begun : l.engine.begun ≡ l.begun;
+  same : l.begun ≡ l.initial.engine.begun;
+  limit : l.engine.limit ≡ l.initial.engine.limit;
+}
+
+abbrev pub decreases-tokens : goal.decreases-tokens
+decreases-tokens g l = room (state_of l.engine)

@@ -1,0 +1,16 @@
+use Rattle.std.proofs.Common.{sym, ap, ◌∙◌, rules}
+use Rattle.texml_scope.specs.Numbers.{key_at}
+use Rattle.texml_expand.specs.Variables.{key_of}
+use Rattle.texml_expand.specs.State.{give, Done, nothing}
+use Rattle.texml_expand.specs.Held.{state_of}
+use Rattle.texml_assign.specs.Targets.{variable_in}
+use Rattle.texml_assign.proofs.Readings.{plain_give}
+use Rattle.texml_assign.proofs.Doing.{does_now}
+use Rattle.texml_assign.proofs.Quantities.{named_key}
+use Rattle.texml_assign.proofs.targets.target_key.Goals as goal
+
+pub returns-in-Named-clause-does : goal.returns-in-Named-clause-does
+returns-in-Named-clause-does g c =
+    let h = c.args.engine.now in let r = c.in-Named.registers in let n = c.in-Named.number in
+    rw c.in-Named.is (does_now _ _ (give (key_of (variable_in r) n)) (plain_give (key_of (variable_in r) n)) (key_at h.names c.register_key.result) h _ _ c.requires.sound c.requires.running
+    (ap (λ k. Done k (state_of h) nothing) (named_key h.names r n ∙ ap (key_at h.names) (sym c.register_key.ensures))))

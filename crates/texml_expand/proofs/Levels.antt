@@ -1,0 +1,246 @@
+-- Fetching, expanding and looking at tokens by depth: a deeper look answers the same, less is left to be read, and some depth decides.
+use Rattle.std.proofs.Common.{◌≡◌, ◌+◌, ◌-◌, ◌<◌, ◌≤◌, ℕ, zero, suc, Bool, true, false, nat_le, if◌then◌else◌, List, [], ◌∷◌, ◌++◌, length, length-append, Option, Some, None, refl, ap, ◌∙◌, arith, add-suc, add-zero, inl, inr, eq-or-lt_of_le}
+use Rattle.std.proofs.lemmas.Bool.{leb-false}
+use Rattle.std.specs.Fmt.{signed_decimal}
+use Rattle.texml_token.specs.Token.{Token}
+use Rattle.texml_token.specs.declared.fault_code.TheConstants.{DEPTH}
+use Rattle.texml_scope.specs.Texts.{Meaning}
+use Rattle.texml_scope.specs.declared.values.MeaningOf.TheVariants.{Undefined}
+use Rattle.texml_scan.specs.declared.looks.Look.TheVariants.{End}
+use Rattle.texml_scan.specs.Grammar.{Expanded, Raw, Verdict, Wanting, Decided, Faulty, Remainder}
+use Rattle.texml_expand.specs.Next.{Taken}
+use Rattle.texml_expand.specs.State.{State, Tex, Limit, nothing, Answer, Done, Ended, chain, IsDecided, fault_at, give}
+use Rattle.texml_expand.specs.Take.{take, meaning_of}
+use Rattle.texml_expand.specs.Arguments.{called}
+use Rattle.texml_expand.specs.Calls.{Expandable, Call, Number, RomanNumeral, The, expandable, Seen, looks, Calls}
+use Rattle.texml_expand.specs.Printed.{printed_tokens, roman_text}
+use Rattle.texml_expand.specs.Quantities.{Looked, int_text, next_looked, look, put_last, decided_on, without_end, scan_token, scan_next, scan_on, scan_by}
+use Rattle.texml_expand.specs.Expand.{Front, Nothing, Plain, Expands, front_of, front_by, front_taken, front, begin, given, finished, finish, expand_by, fetch_front, fetch_by, step, level}
+use Rattle.texml_expand.specs.Contract.{Lower, Begins}
+use Rattle.texml_expand.proofs.Calling.{called_leads, called_decided}
+use Rattle.texml_expand.proofs.Leading.{Leads, leads_chain, leads_weaker, count, lower_none, lower_then, begins_lower, take_leads}
+use Rattle.texml_expand.proofs.Deciding.{chain_decided, any, take_decided}
+use Rattle.texml_expand.proofs.Readings.{Grows, grows_refl, grows_trans, chain_grows}
+use Rattle.texml_expand.proofs.Lawful.{GrowsCalls, Returns, CallsFall, Levels, Lawful, lawful_silent, lawful_give, lawful_then, lawful_scan}
+use Rattle.texml_expand.proofs.Looking.{lawful_looked, looked_leads, lawful_look, lawful_the, put_room}
+
+-- What an expansion gives
+
+pub lawful_given : (e : Expandable) → Lawful (λ c. given c e)
+lawful_given (Call m) = lawful_silent (called m) (called_decided m) (called_leads m)
+lawful_given Number = lawful_then (λ c. c.scan int_text []) (λ i c. give (printed_tokens (signed_decimal i))) (lawful_scan int_text) (λ i. lawful_give (printed_tokens (signed_decimal i)))
+lawful_given RomanNumeral = lawful_then (λ c. c.scan int_text []) (λ i c. give (printed_tokens (roman_text i))) (lawful_scan int_text) (λ i. lawful_give (printed_tokens (roman_text i)))
+lawful_given The = lawful_the
+
+-- The front
+
+abbrev pub front_count : Front → ℕ
+front_count Nothing = 0
+front_count (Plain t) = 1
+front_count (Expands t e) = 1
+
+abbrev pub FrontLeads : State → Front → State → Type 0
+FrontLeads s f t = Lower (front_count f) s t
+
+of_leads : (s t : State) (x : Taken) (e : Option Expandable) → Lower 1 s t → FrontLeads s (front_of x e) t
+of_leads s t x None h = h
+of_leads s t x (Some e) h = h
+
+by_leads : (s t : State) (x : Taken) (m : Option Meaning) → Lower 1 s t → Leads (FrontLeads s) (front_by x m t)
+by_leads s t x (Some Undefined) h = tt
+by_leads s t x m h = of_leads s t x (expandable m) h
+
+frozen_leads : (s t : State) (frozen : Bool) (x : Taken) (m : Option Meaning) → Lower 1 s t → Leads (FrontLeads s) ((if frozen then give (Plain x) else front_by x m) t)
+frozen_leads s t true x m h = h
+frozen_leads s t false x m h = by_leads s t x m h
+
+taken_leads : (s : State) (o : Option Taken) (t : State) → Lower (count o) s t → Leads (FrontLeads s) (front_taken o t)
+taken_leads s None t h = h
+taken_leads s (Some x) t h = frozen_leads s t x.frozen x (meaning_of t.world x.token) h
+
+pub front_leads : (s : State) → Leads (FrontLeads s) (front s)
+front_leads s = leads_chain (λ o t. Lower (count o) s t) (FrontLeads s) (take s) front_taken (take_leads s) (taken_leads s)
+
+by_decided : (x : Taken) (m : Option Meaning) (s : State) → IsDecided (front_by x m s)
+by_decided x (Some Undefined) s = tt
+by_decided x m s = tt
+
+frozen_decided : (b : Bool) (x : Taken) (m : Option Meaning) (s : State) → IsDecided ((if b then give (Plain x) else front_by x m) s)
+frozen_decided true x m s = tt
+frozen_decided false x m s = by_decided x m s
+
+taken_decided : (o : Option Taken) (s : State) → IsDecided (front_taken o s)
+taken_decided None s = tt
+taken_decided (Some x) s = frozen_decided x.frozen x (meaning_of s.world x.token) s
+
+pub front_decided : (s : State) → IsDecided (front s)
+front_decided s = chain_decided (λ v t. Unit {0}) (take s) front_taken (take_decided s) (any (take s)) (λ o t _. taken_decided o t)
+
+-- Beginning
+
+-- an expansion has begun
+abbrev pub Begun : State → Unit {0} → State → Type 0
+Begun s v t = (t ≡ record s { begun = s.begun + 1; nesting = s.nesting + 1 }) × (s.begun < s.limit)
+
+abbrev begun_answer : State → Bool → Bool → Answer (Unit {0})
+begun_answer s b c =
+    if b then Ended (Limit s.limit) nothing
+    else if c then Ended (Tex (fault_at DEPTH [] s.place)) nothing
+    else Done tt (record s { begun = s.begun + 1; nesting = s.nesting + 1 }) nothing
+
+begun_leads : (s : State) (b c : Bool) → nat_le s.limit s.begun ≡ b → Leads (Begun s) (begun_answer s b c)
+begun_leads s true c e = tt
+begun_leads s false true e = tt
+begun_leads s false false e = (refl, leb-false s.limit s.begun e)
+
+pub begin_leads : (s : State) → Leads (Begun s) (begin s)
+begin_leads s = begun_leads s (nat_le s.limit s.begun) (nat_le 400 s.nesting) refl
+
+begun_decided : (s : State) (b c : Bool) → IsDecided (begun_answer s b c)
+begun_decided s true c = tt
+begun_decided s false true = tt
+begun_decided s false false = tt
+
+pub begin_decided : (s : State) → IsDecided (begin s)
+begin_decided s = begun_decided s (nat_le s.limit s.begun) (nat_le 400 s.nesting)
+
+-- a deeper look answers the same
+
+module _ (c c' : Calls) (g : GrowsCalls c c') where
+  pub expand_grows : (t : Token) (e : Expandable) (s : State) → Grows (expand_by c t e s) (expand_by c' t e s)
+  expand_grows t e s = chain_grows (grows_refl (begin s)) (λ _ u. chain_grows ((lawful_given e).grows c c' g u) (λ list v. grows_refl (finish t list v)))
+
+  fetch_front_grows : (f : Front) (s : State) → Grows (fetch_front c f s) (fetch_front c' f s)
+  fetch_front_grows Nothing s = grows_refl _
+  fetch_front_grows (Plain t) s = grows_refl _
+  fetch_front_grows (Expands t e) s = chain_grows (g.expand t e s) (λ _ u. g.fetch u)
+
+  pub fetch_grows : (s : State) → Grows (fetch_by c s) (fetch_by c' s)
+  fetch_grows s = chain_grows (grows_refl (front s)) fetch_front_grows
+
+  module _ {V : Type 0} (r : Remainder V) where
+    scan_token_grows : (seen : List Seen) (o : Option Looked) (s : State) → Grows (scan_token c r seen o s) (scan_token c' r seen o s)
+    scan_token_grows seen None s = grows_refl _
+    scan_token_grows seen (Some x) s = chain_grows ((lawful_look r seen x.counts).grows c c' g s) (λ l u. g.scan r (seen ++ record { token = x.token; look = l } ∷ []) u)
+
+    scan_next_grows : (seen : List Seen) (raw : Bool) (s : State) → Grows (scan_next c r seen raw s) (scan_next c' r seen raw s)
+    scan_next_grows seen raw s = chain_grows ((lawful_looked raw).grows c c' g s) (scan_token_grows seen)
+
+    scan_on_grows : (seen : List Seen) (v : Verdict V) (s : State) → Grows (scan_on c r seen v s) (scan_on c' r seen v s)
+    scan_on_grows seen (Wanting Raw) s = scan_next_grows seen true s
+    scan_on_grows seen (Wanting Expanded) s = scan_next_grows seen false s
+    scan_on_grows seen v s = grows_refl _
+
+    pub scan_grows : (seen : List Seen) (s : State) → Grows (scan_by c r seen s) (scan_by c' r seen s)
+    scan_grows seen s = scan_on_grows seen (r (looks seen)) s
+
+  step_grows : GrowsCalls (step c) (step c')
+  step_grows = record { fetch = fetch_grows; expand = expand_grows; scan = λ r seen s. scan_grows r seen s }
+
+level_grows : (n : ℕ) → GrowsCalls (level n) (level (suc n))
+level_grows zero = record { fetch = λ s. record { same = λ d. absurd d }; expand = λ t e s. record { same = λ d. absurd d }; scan = λ r seen s. record { same = λ d. absurd d } }
+level_grows (suc n) = step_grows (level n) (level (suc n)) (level_grows n)
+
+grows_calls_trans : {a b c : Calls} → GrowsCalls a b → GrowsCalls b c → GrowsCalls a c
+grows_calls_trans g h = record {
+  fetch = λ s. grows_trans (g.fetch s) (h.fetch s);
+  expand = λ t e s. grows_trans (g.expand t e s) (h.expand t e s);
+  scan = λ r seen s. grows_trans (g.scan r seen s) (h.scan r seen s);
+}
+
+grows_calls_refl : (c : Calls) → GrowsCalls c c
+grows_calls_refl c = record { fetch = λ s. grows_refl _; expand = λ t e s. grows_refl _; scan = λ r seen s. grows_refl _ }
+
+levels_grow_by : (k n : ℕ) → GrowsCalls (level n) (level (n + k))
+levels_grow_by zero n = rw add-zero (grows_calls_refl (level n))
+levels_grow_by (suc k) n = rw add-suc (grows_calls_trans (levels_grow_by k n) (level_grows (n + k)))
+
+pub levels_grow : (n m : ℕ) → n ≤ m → GrowsCalls (level n) (level m)
+levels_grow n m h =
+    let e : n + (m - n) ≡ m = omega arith in
+    rw e at (levels_grow_by (m - n) n)
+
+-- less is left to be read
+
+finished_begins : (s t u : State) (list : List Token) → Begun s tt t → Lower 0 t u → Begins s (finished list u)
+finished_begins s t u list h l = record {
+  limit = l.limit ∙ ap (λ x. x.limit) h.0;
+  nesting = let n = l.nesting ∙ ap (λ (x : State). x.nesting) h.0 in omega arith;
+  begun = let b = l.begun in let n = ap (λ (x : State). x.begun) h.0 in omega arith;
+  within = elim (eq-or-lt_of_le l.begun) [
+    | inl same ↦ omega (arith, h.1, same, l.limit, ap (λ (x : State). x.begun) h.0, ap (λ (x : State). x.limit) h.0)
+    | inr later ↦ l.within later
+  ];
+}
+
+module _ (c : Calls) (calls : CallsFall c) where
+  given_leads : (s : State) (tok : Token) (e : Expandable) (t : State) → Begun s tt t → Leads (λ v u. Begins s u) (chain (given c e t) (finish tok))
+  given_leads s tok e t h = leads_chain (λ list u. Lower 0 t u) (λ v u. Begins s u) (given c e t) (finish tok) ((lawful_given e).falls c calls t) (λ list u l. finished_begins s t u list h l)
+
+  expand_leads : (tok : Token) (e : Expandable) (s : State) → Leads (λ v t. Begins s t) (expand_by c tok e s)
+  expand_leads tok e s = leads_chain (Begun s) (λ v t. Begins s t) (begin s) _ (begin_leads s) (λ v t h. given_leads s tok e t h)
+
+  fetch_on_leads : (s t u : State) → Lower 1 s t → Begins t u → Leads (λ o w. Lower (count o) s w) (c.fetch u)
+  fetch_on_leads s t u h b = leads_weaker (λ o w. Lower (count o) u w) (λ o w. Lower (count o) s w) (c.fetch u) (λ o w l. lower_then 1 (count o) (count o) s t w h (begins_lower (count o) (count o) t u w b l) (omega arith)) (calls.fetch u)
+
+  fetch_front_leads : (s : State) (f : Front) (t : State) → Lower (front_count f) s t → Leads (λ o u. Lower (count o) s u) (fetch_front c f t)
+  fetch_front_leads s Nothing t h = h
+  fetch_front_leads s (Plain x) t h = h
+  fetch_front_leads s (Expands tok e) t h = leads_chain (λ v u. Begins t u) (λ o u. Lower (count o) s u) (c.expand tok e t) (λ _. c.fetch) (calls.expand tok e t) (λ v u b. fetch_on_leads s t u h b)
+
+  fetch_leads : (s : State) → Leads (λ o t. Lower (count o) s t) (fetch_by c s)
+  fetch_leads s = leads_chain (FrontLeads s) (λ o t. Lower (count o) s t) (front s) (fetch_front c) (front_leads s) (fetch_front_leads s)
+
+  module _ {V : Type 0} (r : Remainder V) where
+    put_returns : (n k : ℕ) (seen : List Seen) (s t : State) → Lower k s t → Returns (length seen) s (put_last n seen t)
+    put_returns n k seen s t l = record { limit = l.limit; nesting = l.nesting; begun = l.begun; size = λ e. let less = l.size e in let more = put_room n seen t in omega arith; within = l.within }
+
+    decided_leads : (k : ℕ) (seen : List Seen) (v : Verdict V) (s t : State) → Lower k s t → Leads (λ w u. Returns (length seen) s u) (decided_on seen v t)
+    decided_leads k seen (Wanting w) s t l = tt
+    decided_leads k seen (Decided v n) s t l = put_returns n k seen s t l
+    decided_leads k seen (Faulty f) s t l = tt
+
+    more_returns : (seen : List Seen) (x : Seen) (s t u w : State) → Lower 1 s t → Lower 0 t u → Returns (length (seen ++ x ∷ [])) u w → Returns (length seen) s w
+    more_returns seen x s t u w l m h =
+        let low = lower_then 1 0 1 s t u l m (omega arith) in
+        record {
+          limit = h.limit ∙ low.limit;
+          nesting = h.nesting ∙ low.nesting;
+          begun = omega (arith, h.begun, low.begun);
+          size = λ e. let a = low.size (omega (arith, h.begun, low.begun, e)) in let b = h.size (omega (arith, h.begun, low.begun, e)) in omega (arith, length-append seen (x ∷ []));
+          within = λ lt. elim (eq-or-lt_of_le h.begun) [
+            | inl same ↦ (let w : u.begun ≤ u.limit = low.within (omega (arith, lt, same)) in omega (arith, w, same, h.limit))
+            | inr later ↦ h.within later
+          ];
+        }
+
+    look_leads : (seen : List Seen) (x : Looked) (s t : State) → Lower 1 s t → Leads (λ w u. Returns (length seen) s u) (scan_token c r seen (Some x) t)
+    look_leads seen x s t l =
+        leads_chain (λ k u. Lower 0 t u) (λ w u. Returns (length seen) s u) (look c r seen x.counts t) (λ k. c.scan r (seen ++ record { token = x.token; look = k } ∷ [])) ((lawful_look r seen x.counts).falls c calls t)
+        (λ k u m. leads_weaker (λ w z. Returns (length (seen ++ record { token = x.token; look = k } ∷ [])) u z) (λ w z. Returns (length seen) s z) (c.scan r (seen ++ record { token = x.token; look = k } ∷ []) u)
+        (λ w z h. more_returns seen (record { token = x.token; look = k }) s t u z l m h) (calls.scan r (seen ++ record { token = x.token; look = k } ∷ []) u))
+
+    token_leads : (seen : List Seen) (s : State) (o : Option Looked) (t : State) → Lower (count o) s t → Leads (λ w u. Returns (length seen) s u) (scan_token c r seen o t)
+    token_leads seen s None t l = decided_leads 0 seen (without_end (r (looks seen ++ End ∷ []))) s t l
+    token_leads seen s (Some x) t l = look_leads seen x s t l
+
+    scan_next_leads : (seen : List Seen) (raw : Bool) (s : State) → Leads (λ w u. Returns (length seen) s u) (scan_next c r seen raw s)
+    scan_next_leads seen raw s = leads_chain (λ o t. Lower (count o) s t) (λ w u. Returns (length seen) s u) (next_looked c raw s) (scan_token c r seen) (looked_leads c calls raw s) (token_leads seen s)
+
+    scan_on_leads : (seen : List Seen) (v : Verdict V) (s : State) → Leads (λ w u. Returns (length seen) s u) (scan_on c r seen v s)
+    scan_on_leads seen (Wanting Raw) s = scan_next_leads seen true s
+    scan_on_leads seen (Wanting Expanded) s = scan_next_leads seen false s
+    scan_on_leads seen v s = decided_leads 0 seen v s s (lower_none s)
+
+    scan_leads : (seen : List Seen) (s : State) → Leads (λ w u. Returns (length seen) s u) (scan_by c r seen s)
+    scan_leads seen s = scan_on_leads seen (r (looks seen)) s
+
+  step_falls : CallsFall (step c)
+  step_falls = record { fetch = fetch_leads; expand = expand_leads; scan = λ r seen s. scan_leads r seen s }
+
+pub level_falls : (n : ℕ) → CallsFall (level n)
+level_falls zero = record { fetch = λ s. tt; expand = λ t e s. tt; scan = λ r seen s. tt }
+level_falls (suc n) = step_falls (level n) (level_falls n)
+
+abbrev pub levels : Levels
+levels = record { at = level; grow = levels_grow; fall = level_falls }

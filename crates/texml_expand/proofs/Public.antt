@@ -1,0 +1,26 @@
+-- What is fetched and expanded, as it is said outside, is lawful.
+use Rattle.std.proofs.Common.{Option, Some, None}
+use Rattle.std.specs.Option.{option_map}
+use Rattle.texml_token.specs.Token.{Token}
+use Rattle.texml_expand.specs.Take.{meaning_of}
+use Rattle.texml_expand.specs.Calls.{Expandable, expandable}
+use Rattle.texml_expand.specs.Quantities.{Looked, expanded}
+use Rattle.texml_expand.specs.Expand.{counted, fetched, expand_as, expand_token}
+use Rattle.texml_expand.proofs.Lawful.{By, Lawful, lawful_give, lawful_by, lawful_then, lawful_expand}
+use Rattle.texml_expand.proofs.Looking.{lawful_expanded}
+
+abbrev pub as_counted : Option Looked → By (Option Token)
+as_counted o c = counted o
+
+pub lawful_counted : (o : Option Looked) → Lawful (as_counted o)
+lawful_counted o = lawful_give (option_map (λ x. x.counts) o)
+
+pub lawful_fetched : Lawful fetched
+lawful_fetched = lawful_then expanded as_counted lawful_expanded lawful_counted
+
+lawful_expand_as : (t : Token) (e : Option Expandable) → Lawful (λ c. expand_as c t e)
+lawful_expand_as t None = lawful_give tt
+lawful_expand_as t (Some e) = lawful_expand t e
+
+pub lawful_expand_token : (t : Token) → Lawful (λ c. expand_token c t)
+lawful_expand_token t = lawful_by (λ s. expandable (meaning_of s.world t)) (λ e c. expand_as c t e) (lawful_expand_as t)

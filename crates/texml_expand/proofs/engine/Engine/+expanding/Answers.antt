@@ -1,0 +1,571 @@
+use Rattle.std.proofs.Common.{[], FitsSigned, w32, refl, sym, ap, subst, ◌∙◌, rules, pos, true, false, None, Some, Ok, Err, ◌∷◌, List, ◌≡◌}
+use Rattle.std.specs.Fmt.{signed_decimal}
+use Rattle.std.proofs.lemmas.Int.{to_z-of_z}
+use Rattle.texml_expand.specs.Contract.{Silent}
+use Rattle.texml_token.specs.Numbers.{Extends, token_at, tokens_at}
+use Rattle.texml_token.proofs.Translation.{token_kept}
+use Rattle.texml_expand.specs.Held.{Held, state_of, ok_at, read_at}
+use Rattle.texml_expand.specs.Fronts.{macro_at, expandable_at, looked_at}
+use Rattle.texml_expand.specs.declared.variables.Index.TheVariants.{Character, Register}
+use Rattle.texml_expand.specs.State.{give}
+use Rattle.texml_expand.specs.Calls.{Call}
+use Rattle.texml_expand.specs.Printed.{printed_tokens, roman_text}
+use Rattle.texml_expand.specs.Variables.{a_character, a_register, key_of, index_of, Number, value_of}
+use Rattle.texml_expand.specs.Quantities.{int_text, read_index, look, read_key, internal_of, internal, as_itself, shown}
+use Rattle.texml_expand.specs.Expand.{given, level}
+use Rattle.texml_expand.specs.Hearing.{hears, hears_part}
+use Rattle.texml_expand.proofs.Lawful.{lawful_give, lawful_scan, lawful_fetch}
+use Rattle.texml_expand.proofs.Looking.{lawful_character, lawful_register, value, lawful_value, lawful_index, lawful_look, lawful_key, lawful_internal_of, lawful_internal, counts, lawful_counts, lawful_take, shown_now, lawful_shown_now}
+use Rattle.texml_expand.proofs.Levels.{lawful_given}
+use Rattle.texml_expand.proofs.Doing.{by_new, did_silent, does_silent, does_as, does_now, does_stop, does_then, does_out, does_fault, did_out, does_lower}
+use Rattle.texml_expand.proofs.Rounds.{index_as, front_did, given_as, begins_did, finish_did, expand_stops, expand_ungiven, expand_ends, fetch_stops, fetch_ends, fetch_plain, fetching_on, fetch_unexpanded, looked_as}
+use Rattle.texml_scope.specs.Numbers.{key_at, meaning_at}
+use Rattle.texml_expand.specs.VariableCodes.{internal_at}
+use Rattle.texml_expand.specs.declared.machine.Value.TheVariants as worths
+use Rattle.texml_expand.specs.declared.machine.Machine.TheVariants as machines
+use Rattle.texml_expand.specs.Machine.{machine_rest, scanned_as, mapped}
+use Rattle.texml_expand.proofs.Looks.{scalar_signed, not_internal, no_value, key_same, look_now, look_stops, look_done, look_behind, look_at, scan_stops, scan_unseen, scan_decides, scan_ends, scanning_on, scan_does}
+use Rattle.std.specs.Option.{option_map}
+use Rattle.texml_token.specs.declared.fault_code.TheConstants.{MISSING_NUMBER}
+use Rattle.texml_expand.specs.Take.{take}
+use Rattle.texml_expand.specs.Doing.{Does}
+use Rattle.texml_expand.proofs.Total.{total}
+use Rattle.texml_expand.proofs.Progress.{progress_itself}
+use Rattle.texml_expand.proofs.Fronts.{kept_itself}
+use Rattle.texml_scan.specs.Looked.{look_of}
+use Rattle.texml_scan.specs.declared.looks.Held.TheVariants.{Nothing}
+use Rattle.texml_expand.proofs.Leading.{lower_none}
+use Rattle.texml_expand.proofs.Showing.{the_stops, the_ends, the_behind, shown_stops, shown_then}
+use Rattle.texml_scan.specs.declared.looks.Look.{Look}
+use Rattle.texml_scan.specs.Grammar.{verdict}
+use Rattle.texml_expand.proofs.Worth.{scan_stop, scan_value, scan_of, int_same}
+use Rattle.texml_expand.proofs.engine.Engine.+expanding.Goals as goal
+
+pub expand-returns-clause-does : goal.expand-returns-clause-does
+expand-returns-clause-does g t c =
+    let T = g.T.Teller in
+    let b = c.in_ok-begin.ensures in
+    let l = c.in_ok-list.ensures in
+    let e = c.finish.ensures in
+    let mine = c.args.self.now in
+    let now = c.given.new.self in
+    let d = begins_did (hears T.wanting T.heard) (hears_part T.wanting T.part) _ mine c.begin.new.self (T.faults c.args.tell.now) c.args.tell.now c.requires.sound b.begins b.kept b.is b.within b.limit b.progress in
+    let same = ap (λ (h : Held). expandable_at h.names c.args.found) (sym b.is) in
+    let k = given_as (hears T.wanting T.heard) (hears_part T.wanting T.part) _ (expandable_at mine.names c.args.found) _ _ _ _ _ _ _ same l.does in
+    let names = subst (λ (h : Held). Extends h.names now.names) b.is l.does.progress.names in
+    let u = finish_did (hears T.wanting T.heard) (hears_part T.wanting T.part) (token_at mine.names c.args.token) _ c.in_ok-list.list _ now _ _ _ _ _ l.does.keeps.sound l.within (token_kept mine.names now.names names c.args.token c.requires.token) e.finishes e.stops e.is e.limit e.progress in
+    expand_ends (hears T.wanting T.heard) (hears_part T.wanting T.part) (token_at mine.names c.args.token) (expandable_at mine.names c.args.found) _ _ _ _ _ _ _ _ _ _ _ _ d k u
+
+pub expand-returns-in_err-begin-clause-does : goal.expand-returns-in_err-begin-clause-does
+expand-returns-in_err-begin-clause-does g t c =
+    let T = g.T.Teller in
+    let b = c.in_err-begin.ensures in
+    let mine = c.args.self.now in
+    let d = begins_did (hears T.wanting T.heard) (hears_part T.wanting T.part) _ mine c.begin.new.self (T.faults c.args.tell.now) c.args.tell.now c.requires.sound b.begins b.kept tt tt b.limit b.progress in
+    let h = expand_stops (hears T.wanting T.heard) (hears_part T.wanting T.part) (token_at mine.names c.args.token) (expandable_at mine.names c.args.found) _ _ _ _ _ d in
+    search (rules, h)
+
+pub expand-returns-in_err-list-clause-does : goal.expand-returns-in_err-list-clause-does
+expand-returns-in_err-list-clause-does g t c =
+    let T = g.T.Teller in
+    let b = c.in_ok-begin.ensures in
+    let mine = c.args.self.now in
+    let d = begins_did (hears T.wanting T.heard) (hears_part T.wanting T.part) _ mine c.begin.new.self (T.faults c.args.tell.now) c.args.tell.now c.requires.sound b.begins b.kept b.is b.within b.limit b.progress in
+    let same = ap (λ (h : Held). expandable_at h.names c.args.found) (sym b.is) in
+    let k = given_as (hears T.wanting T.heard) (hears_part T.wanting T.part) _ (expandable_at mine.names c.args.found) _ _ _ _ _ _ _ same c.in_err-list.ensures.does in
+    let h = expand_ungiven (hears T.wanting T.heard) (hears_part T.wanting T.part) (token_at mine.names c.args.token) (expandable_at mine.names c.args.found) _ _ _ _ _ _ _ _ d k in
+    search (rules, h)
+
+pub fetch_on-fronts-preserved : goal.fetch_on-fronts-preserved
+fetch_on-fronts-preserved g t c =
+    let T = g.T.Teller in
+    let e = c.in_ok-front.ensures in
+    let d = front_did (hears T.wanting T.heard) (hears_part T.wanting T.part) _ _ c.fronts.self c.front.new.self (T.faults c.fronts.tell) c.fronts.tell c.in-Expands.is e.fronts e.kept e.keeps e.progress in
+    let x = c.in_ok-expand-in-Expands.ensures in
+    fetching_on (hears T.wanting T.heard) (hears_part T.wanting T.part) _ _ _ _ _ _ _ _ _ _ _ _ c.fronts.invariant d (rw c.in-Expands.is at e.lower) x.does x.begins
+
+pub fetch_on-returns-in-Nothing-clause-does : goal.fetch_on-returns-in-Nothing-clause-does
+fetch_on-returns-in-Nothing-clause-does g t c =
+    let T = g.T.Teller in
+    let e = c.in_ok-front.ensures in
+    let d = front_did (hears T.wanting T.heard) (hears_part T.wanting T.part) _ _ c.fronts.self c.front.new.self (T.faults c.fronts.tell) c.fronts.tell c.in-Nothing.is e.fronts e.kept e.keeps e.progress in
+    fetch_ends (hears T.wanting T.heard) (hears_part T.wanting T.part) _ _ _ _ _ _ _ c.fronts.invariant d
+
+pub fetch_on-returns-in-Plain-clause-does : goal.fetch_on-returns-in-Plain-clause-does
+fetch_on-returns-in-Plain-clause-does g t c =
+    let T = g.T.Teller in
+    let e = c.in_ok-front.ensures in
+    let d = front_did (hears T.wanting T.heard) (hears_part T.wanting T.part) _ _ c.fronts.self c.front.new.self (T.faults c.fronts.tell) c.fronts.tell c.in-Plain.is e.fronts e.kept e.keeps e.progress in
+    fetch_plain (hears T.wanting T.heard) (hears_part T.wanting T.part) (read_at c.front.new.self.names c.in-Plain.read) _ _ _ _ _ _ _ c.fronts.invariant d
+
+pub fetch_on-returns-in_err-expand-in-Expands-clause-does : goal.fetch_on-returns-in_err-expand-in-Expands-clause-does
+fetch_on-returns-in_err-expand-in-Expands-clause-does g t c =
+    let T = g.T.Teller in
+    let e = c.in_ok-front.ensures in
+    let d = front_did (hears T.wanting T.heard) (hears_part T.wanting T.part) _ _ c.fronts.self c.front.new.self (T.faults c.fronts.tell) c.fronts.tell c.in-Expands.is e.fronts e.kept e.keeps e.progress in
+    let h = fetch_unexpanded (hears T.wanting T.heard) (hears_part T.wanting T.part) _ _ _ _ _ _ _ _ _ _ _ _ _ c.fronts.invariant d c.in_err-expand-in-Expands.ensures.does in
+    search (rules, h)
+
+pub fetch_on-returns-in_err-front-clause-does : goal.fetch_on-returns-in_err-front-clause-does
+fetch_on-returns-in_err-front-clause-does g t c =
+    let T = g.T.Teller in
+    let e = c.in_err-front.ensures in
+    let d = did_silent (hears T.wanting T.heard) (hears_part T.wanting T.part) _ _ c.fronts.self c.front.new.self (T.faults c.fronts.tell) c.fronts.tell e.fronts e.kept e.limit tt e.progress in
+    let h = fetch_stops (hears T.wanting T.heard) (hears_part T.wanting T.part) _ _ _ _ _ _ _ _ c.fronts.invariant d in
+    search (rules, h)
+
+pub given-returns-in-Call-clause-does : goal.given-returns-in-Call-clause-does
+given-returns-in-Call-clause-does g t c =
+    let T = g.T.Teller in
+    let e = c.called.ensures in
+    let mine = c.args.self.now in
+    let new = c.called.new.self in
+    let m = macro_at mine.names c.in-Call.found in
+    let d = does_as (hears T.wanting T.heard) (hears_part T.wanting T.part) (tokens_at new.names) (λ c. given c (Call m)) (lawful_given (Call m)) c.called.result mine new (T.faults c.args.tell.now) c.args.tell.now e.gives e.kept e.limit e.keeps e.progress in
+    rw c.in-Call.is d
+
+pub given-returns-in_err-value-in-Number-clause-does : goal.given-returns-in_err-value-in-Number-clause-does
+given-returns-in_err-value-in-Number-clause-does g t c =
+    let T = g.T.Teller in
+    let d = does_stop (hears T.wanting T.heard) (hears_part T.wanting T.part) (λ c. c.scan int_text []) (λ i c. give (printed_tokens (signed_decimal i))) (lawful_scan int_text) (λ i. lawful_give (printed_tokens (signed_decimal i))) _ _ _ _ _ _ _ c.in_err-value-in-Number.ensures.does in
+    let h = given_as (hears T.wanting T.heard) (hears_part T.wanting T.part) _ (expandable_at c.args.self.now.names c.args.found) _ _ _ _ _ _ _ (ap (expandable_at c.args.self.now.names) c.in-Number.is) d in
+    search (rules, h)
+
+pub given-returns-in_err-value-in-RomanNumeral-clause-does : goal.given-returns-in_err-value-in-RomanNumeral-clause-does
+given-returns-in_err-value-in-RomanNumeral-clause-does g t c =
+    let T = g.T.Teller in
+    let d = does_stop (hears T.wanting T.heard) (hears_part T.wanting T.part) (λ c. c.scan int_text []) (λ i c. give (printed_tokens (roman_text i))) (lawful_scan int_text) (λ i. lawful_give (printed_tokens (roman_text i))) _ _ _ _ _ _ _ c.in_err-value-in-RomanNumeral.ensures.does in
+    let h = given_as (hears T.wanting T.heard) (hears_part T.wanting T.part) _ (expandable_at c.args.self.now.names c.args.found) _ _ _ _ _ _ _ (ap (expandable_at c.args.self.now.names) c.in-RomanNumeral.is) d in
+    search (rules, h)
+
+pub given-returns-in_ok-value-in-Number-clause-does : goal.given-returns-in_ok-value-in-Number-clause-does
+given-returns-in_ok-value-in-Number-clause-does g t c =
+    let T = g.T.Teller in
+    let e = c.number.ensures in
+    let mid = c.int.new.self in
+    let new = c.number.new.self in
+    let tell = c.int.new.tell in
+    let i = c.in_ok-value-in-Number.value in
+    let fits : FitsSigned w32 i = search rules in
+    let d = does_as (hears T.wanting T.heard) (hears_part T.wanting T.part) (tokens_at new.names) (λ c. give (printed_tokens (signed_decimal i))) (lawful_give (printed_tokens (signed_decimal i))) c.number.result mid new (T.faults tell) tell (by_new tokens_at _ _ mid new (subst (λ z. Silent (give (printed_tokens (signed_decimal z)) (state_of mid)) (ok_at (tokens_at mid.names) c.number.result) (state_of new)) (to_z-of_z w32 i fits) e.writes) e.same) e.kept e.limit e.keeps e.progress in
+    rw c.in-Number.is (does_then (hears T.wanting T.heard) (hears_part T.wanting T.part) (λ c. c.scan int_text []) (λ i c. give (printed_tokens (signed_decimal i))) (lawful_scan int_text) (λ i. lawful_give (printed_tokens (signed_decimal i))) i _ _ _ _ _ _ _ _ _ _ c.in_ok-value-in-Number.ensures.does d)
+
+pub given-returns-in_ok-value-in-RomanNumeral-clause-does : goal.given-returns-in_ok-value-in-RomanNumeral-clause-does
+given-returns-in_ok-value-in-RomanNumeral-clause-does g t c =
+    let T = g.T.Teller in
+    let e = c.roman_numeral.ensures in
+    let mid = c.int-in-RomanNumeral.new.self in
+    let new = c.roman_numeral.new.self in
+    let tell = c.int-in-RomanNumeral.new.tell in
+    let i = c.in_ok-value-in-RomanNumeral.value in
+    let fits : FitsSigned w32 i = search rules in
+    let d = does_as (hears T.wanting T.heard) (hears_part T.wanting T.part) (tokens_at new.names) (λ c. give (printed_tokens (roman_text i))) (lawful_give (printed_tokens (roman_text i))) c.roman_numeral.result mid new (T.faults tell) tell (by_new tokens_at _ _ mid new (subst (λ z. Silent (give (printed_tokens (roman_text z)) (state_of mid)) (ok_at (tokens_at mid.names) c.roman_numeral.result) (state_of new)) (to_z-of_z w32 i fits) e.writes) e.same) e.kept e.limit e.keeps e.progress in
+    rw c.in-RomanNumeral.is (does_then (hears T.wanting T.heard) (hears_part T.wanting T.part) (λ c. c.scan int_text []) (λ i c. give (printed_tokens (roman_text i))) (lawful_scan int_text) (λ i. lawful_give (printed_tokens (roman_text i))) i _ _ _ _ _ _ _ _ _ _ c.in_ok-value-in-RomanNumeral.ensures.does d)
+
+pub index-returns-in-Alone-clause-does : goal.index-returns-in-Alone-clause-does
+index-returns-in-Alone-clause-does g t c =
+    let T = g.T.Teller in
+    rw c.in-Alone.is (does_now (hears T.wanting T.heard) (hears_part T.wanting T.part) 0 c.args.self.now (T.faults c.args.tell.now) c.args.tell.now c.requires.sound c.requires.running)
+
+pub index-returns-in_err-number-in-Character-clause-does : goal.index-returns-in_err-number-in-Character-clause-does
+index-returns-in_err-number-in-Character-clause-does g t c =
+    let T = g.T.Teller in
+    let d = does_stop (hears T.wanting T.heard) (hears_part T.wanting T.part) (λ c. c.scan int_text []) (λ i c. a_character i) (lawful_scan int_text) lawful_character _ _ _ _ _ _ _ c.in_err-number-in-Character.ensures.does in
+    let h = index_as (hears T.wanting T.heard) (hears_part T.wanting T.part) Character c.args.index _ _ _ _ _ _ _ c.in-Character.is d in
+    search (rules, h)
+
+pub index-returns-in_err-number-in-Register-clause-does : goal.index-returns-in_err-number-in-Register-clause-does
+index-returns-in_err-number-in-Register-clause-does g t c =
+    let T = g.T.Teller in
+    let d = does_stop (hears T.wanting T.heard) (hears_part T.wanting T.part) (λ c. c.scan int_text []) (λ i c. a_register i) (lawful_scan int_text) lawful_register _ _ _ _ _ _ _ c.in_err-number-in-Register.ensures.does in
+    let h = index_as (hears T.wanting T.heard) (hears_part T.wanting T.part) Register c.args.index _ _ _ _ _ _ _ c.in-Register.is d in
+    search (rules, h)
+
+pub index-returns-in_ok-number-in-Character-clause-does : goal.index-returns-in_ok-number-in-Character-clause-does
+index-returns-in_ok-number-in-Character-clause-does g t c =
+    let T = g.T.Teller in
+    let e = c.character.ensures in
+    let mid = c.int.new.self in
+    let new = c.character.new.self in
+    let tell = c.int.new.tell in
+    let i = c.in_ok-number-in-Character.number in
+    let fits : FitsSigned w32 i = search rules in
+    let d = does_silent (hears T.wanting T.heard) (hears_part T.wanting T.part) (λ c. a_character i) (lawful_character i) c.character.result mid new (T.faults tell) tell (subst (λ z. Silent (a_character z (state_of mid)) c.character.result (state_of new)) (to_z-of_z w32 i fits) e.is) e.kept e.limit e.keeps e.progress in
+    rw c.in-Character.is (does_then (hears T.wanting T.heard) (hears_part T.wanting T.part) (λ c. c.scan int_text []) (λ i c. a_character i) (lawful_scan int_text) lawful_character i _ _ _ _ _ _ _ _ _ _ c.in_ok-number-in-Character.ensures.does d)
+
+pub index-returns-in_ok-number-in-Register-clause-does : goal.index-returns-in_ok-number-in-Register-clause-does
+index-returns-in_ok-number-in-Register-clause-does g t c =
+    let T = g.T.Teller in
+    let e = c.register.ensures in
+    let mid = c.int-in-Register.new.self in
+    let new = c.register.new.self in
+    let tell = c.int-in-Register.new.tell in
+    let i = c.in_ok-number-in-Register.number in
+    let fits : FitsSigned w32 i = search rules in
+    let d = does_silent (hears T.wanting T.heard) (hears_part T.wanting T.part) (λ c. a_register i) (lawful_register i) c.register.result mid new (T.faults tell) tell (subst (λ z. Silent (a_register z (state_of mid)) c.register.result (state_of new)) (to_z-of_z w32 i fits) e.is) e.kept e.limit e.keeps e.progress in
+    rw c.in-Register.is (does_then (hears T.wanting T.heard) (hears_part T.wanting T.part) (λ c. c.scan int_text []) (λ i c. a_register i) (lawful_scan int_text) lawful_register i _ _ _ _ _ _ _ _ _ _ c.in_ok-number-in-Register.ensures.does d)
+
+pub int-returns-clause-does : goal.int-returns-clause-does
+int-returns-clause-does g t c =
+    let same : (xs : List Look) → machine_rest (machines.Int c.new.result) xs ≡ mapped worths.Int (int_text xs) = λ xs. ap (λ r. mapped worths.Int (verdict r)) (c.new.ensures xs) in
+    let i = c.in-Int.value in
+    let fits : FitsSigned w32 i = search rules in
+    let h = scan_of _ _ worths.Int (machine_rest (machines.Int c.new.result)) int_text same i c.in_ok-value.field-0 _ _ _ _ _ _ c.in-Int.is int_same c.in_ok-value.ensures.does in
+    rw (to_z-of_z w32 i fits) h
+
+pub int-returns-in_err-value-clause-does : goal.int-returns-in_err-value-clause-does
+int-returns-in_err-value-clause-does g t c =
+    let same : (xs : List Look) → machine_rest (machines.Int c.new.result) xs ≡ mapped worths.Int (int_text xs) = λ xs. ap (λ r. mapped worths.Int (verdict r)) (c.new.ensures xs) in
+    let h = scan_stop _ _ worths.Int (machine_rest (machines.Int c.new.result)) int_text same _ _ _ _ _ _ _ c.in_err-value.ensures.does in
+    search (rules, h)
+
+pub int-unreachable-requires : goal.int-unreachable-requires
+int-unreachable-requires g t c =
+    let same : (xs : List Look) → machine_rest (machines.Int c.new.result) xs ≡ mapped worths.Int (int_text xs) = λ xs. ap (λ r. mapped worths.Int (verdict r)) (c.new.ensures xs) in
+    let h = scan_value _ _ worths.Int (machine_rest (machines.Int c.new.result)) int_text same _ _ _ _ _ _ _ c.in_ok-value.ensures.does in
+    c.in_default.not-Int h.value h.is
+
+pub internal-returns-in-Builtin-clause-does : goal.internal-returns-in-Builtin-clause-does
+internal-returns-in-Builtin-clause-does g t c =
+    rw c.in-Builtin.is c.internal_at.ensures.does
+
+pub internal-returns-in-Number-clause-does : goal.internal-returns-in-Number-clause-does
+internal-returns-in-Number-clause-does g t c =
+    let T = g.T.Teller in
+    let within = rw c.in-Number.is at c.requires.meaning in
+    rw c.in-Number.is (rw (scalar_signed c.in-Number.code within) (does_now (hears T.wanting T.heard) (hears_part T.wanting T.part) (Number (pos c.in-Number.code)) c.args.self.now (T.faults c.args.tell.now) c.args.tell.now c.requires.sound c.requires.running))
+
+pub internal-returns-in-Quantity-clause-does : goal.internal-returns-in-Quantity-clause-does
+internal-returns-in-Quantity-clause-does g t c =
+    let T = g.T.Teller in
+    let e = c.value_of.ensures in
+    let mine = c.args.self.now in
+    let new = c.value_of.new.self in
+    let k = key_at mine.names c.in-Quantity.key in
+    let d = does_as (hears T.wanting T.heard) (hears_part T.wanting T.part) (internal_at new.names) (value k) (lawful_value k) c.value_of.result mine new (T.faults c.args.tell.now) c.args.tell.now (by_new internal_at _ _ mine new e.values e.same) e.kept e.limit e.keeps e.progress in
+    rw c.in-Quantity.is d
+
+pub internal-returns-in_default : goal.internal-returns-in_default
+internal-returns-in_default g t c =
+    let T = g.T.Teller in
+    let e = c.bare_fault.ensures in
+    let m = meaning_at c.args.self.now.names c.args.meaning.now in
+    let n = c.in_default in
+    let is = not_internal total c.args.self.now.names c.args.meaning.now (state_of c.args.self.now) n.not-Builtin n.not-Quantity n.not-Number in
+    record { does = does_fault (hears T.wanting T.heard) (hears_part T.wanting T.part) (λ c. internal c m) (lawful_internal m) MISSING_NUMBER [] c.bare_fault.result c.args.self.now c.bare_fault.new.self (T.faults c.args.tell.now) c.args.tell.now is e.is e.kept; lower = tt; within = tt }
+
+pub internal_at-returns-clause-does : goal.internal_at-returns-clause-does
+internal_at-returns-clause-does g t c =
+    let T = g.T.Teller in
+    let e = c.value_of.ensures in
+    let mid = c.index.new.self in
+    let new = c.value_of.new.self in
+    let tell = c.index.new.tell in
+    let v = c.in-Some.variable in
+    let n = c.in_ok-number.number in
+    let k = key_of v n in
+    let some = sym c.variable_at.ensures ∙ c.in-Some.is in
+    let i = c.in_ok-number.ensures.does in
+    let index = index_as (hears T.wanting T.heard) (hears_part T.wanting T.part) _ (index_of v) _ _ _ _ _ _ _ (sym c.index_of.ensures) i in
+    let key = does_then (hears T.wanting T.heard) (hears_part T.wanting T.part) (λ c. read_index c (index_of v)) (λ n c. give (key_of v n)) (lawful_index (index_of v)) (λ n. lawful_give (key_of v n)) n _ _ _ _ _ _ _ _ _ _ index (does_now (hears T.wanting T.heard) (hears_part T.wanting T.part) k mid (T.faults tell) tell i.keeps.sound i.stops.kept) in
+    let same = ap (key_at mid.names) c.key_of.ensures ∙ key_same mid.names v n in
+    let values = subst (λ k. Silent (value_of k (state_of mid)) (ok_at (internal_at mid.names) c.value_of.result) (state_of new)) same e.values in
+    let d = does_as (hears T.wanting T.heard) (hears_part T.wanting T.part) (internal_at new.names) (value k) (lawful_value k) c.value_of.result mid new (T.faults tell) tell (by_new internal_at _ _ mid new values e.same) e.kept e.limit e.keeps e.progress in
+    rw some (does_then (hears T.wanting T.heard) (hears_part T.wanting T.part) (λ c. read_key c v) value (lawful_key v) lawful_value k _ _ _ _ _ _ _ _ _ _ key d)
+
+pub internal_at-returns-in_default-clause-does : goal.internal_at-returns-in_default-clause-does
+internal_at-returns-in_default-clause-does g t c =
+    let T = g.T.Teller in
+    let e = c.bare_fault.ensures in
+    let none = sym c.variable_at.ensures ∙ no_value c.variable_at.result c.in_default.not-Some in
+    rw none (does_fault (hears T.wanting T.heard) (hears_part T.wanting T.part) (λ c. internal_of c None) (lawful_internal_of None) MISSING_NUMBER [] c.bare_fault.result c.args.self.now c.bare_fault.new.self (T.faults c.args.tell.now) c.args.tell.now refl e.is e.kept)
+
+pub internal_at-returns-in_err-number-clause-does : goal.internal_at-returns-in_err-number-clause-does
+internal_at-returns-in_err-number-clause-does g t c =
+    let T = g.T.Teller in
+    let v = c.in-Some.variable in
+    let some = sym c.variable_at.ensures ∙ c.in-Some.is in
+    let index = index_as (hears T.wanting T.heard) (hears_part T.wanting T.part) _ (index_of v) _ _ _ _ _ _ _ (sym c.index_of.ensures) c.in_err-number.ensures.does in
+    let key = does_stop (hears T.wanting T.heard) (hears_part T.wanting T.part) (λ c. read_index c (index_of v)) (λ n c. give (key_of v n)) (lawful_index (index_of v)) (λ n. lawful_give (key_of v n)) _ _ _ _ _ _ _ index in
+    let h = does_stop (hears T.wanting T.heard) (hears_part T.wanting T.part) (λ c. read_key c v) value (lawful_key v) lawful_value _ _ _ _ _ _ _ key in
+    let goal = subst (λ o. Does (hears T.wanting T.heard) (hears_part T.wanting T.part) (λ n. internal_of (level n) o) (Err c.in_err-number.field-0.0) c.args.self.now c.index.new.self (T.faults c.args.tell.now) (T.faults c.index.new.tell) c.args.tell.now c.index.new.tell) (sym some) h in
+    search (rules, goal)
+
+pub look_by-returns-clause-does : goal.look_by-returns-clause-does
+look_by-returns-clause-does g t c =
+    let T = g.T.Teller in
+    let mine = c.args.self.now in
+    let tell = c.args.tell.now in
+    let t = token_at mine.names c.args.token in
+    let m = meaning_at mine.names c.in-Ok.meaning in
+    let r = machine_rest c.args.machine.now in
+    let names = ap (λ (h : Held). h.names) c.self.view_is in
+    let first = c.looked_at-look.ensures ∙ ap (λ texts. look_of (token_at texts c.args.token) c.in-Ok.meaning Nothing) names ∙ look_at mine.names t c.in-Ok.meaning Nothing in
+    let asked = ap (λ l. r (l ∷ [])) (sym first) ∙ c.turn.ensures.is ∙ ap scanned_as c.in-Asked.is in
+    let i = c.in_ok-internal.ensures.does in
+    let new = c.internal.new.self in
+    let q = c.in_ok-internal.internal in
+    let now = ap (λ (h : Held). h.names) c.self-2.view_is in
+    let second = c.looked_at-look-2.ensures ∙ ap (λ texts. look_of (token_at texts c.args.token) c.in-Ok.meaning c.held_of.result) now ∙ ap (look_of (token_at new.names c.args.token) c.in-Ok.meaning) c.held_of.ensures ∙ look_behind mine.names new.names i.progress.names c.args.token c.requires.token c.in-Ok.meaning q in
+    let d = look_done (hears T.wanting T.heard) (hears_part T.wanting T.part) r t m (internal_at new.names q) _ _ _ _ _ _ c.in-Ok.ensures.means asked i in
+    rw second d
+
+pub look_by-returns-in-Err-clause-does : goal.look_by-returns-in-Err-clause-does
+look_by-returns-in-Err-clause-does g t c =
+    let T = g.T.Teller in
+    let x = token_at c.args.self.now.names c.args.token in
+    let r = machine_rest c.args.machine.now in
+    does_out (hears T.wanting T.heard) (hears_part T.wanting T.part) (λ c. look c r [] x) (lawful_look r [] x) c.no_memory.result c.args.self.now c.no_memory.new.self (T.faults c.args.tell.now) c.args.tell.now c.no_memory.ensures.is c.no_memory.ensures.kept
+
+pub look_by-returns-in_err-internal-clause-does : goal.look_by-returns-in_err-internal-clause-does
+look_by-returns-in_err-internal-clause-does g t c =
+    let T = g.T.Teller in
+    let mine = c.args.self.now in
+    let tell = c.args.tell.now in
+    let t = token_at mine.names c.args.token in
+    let m = meaning_at mine.names c.in-Ok.meaning in
+    let r = machine_rest c.args.machine.now in
+    let names = ap (λ (h : Held). h.names) c.self.view_is in
+    let first = c.looked_at-look.ensures ∙ ap (λ texts. look_of (token_at texts c.args.token) c.in-Ok.meaning Nothing) names ∙ look_at mine.names t c.in-Ok.meaning Nothing in
+    let asked = ap (λ l. r (l ∷ [])) (sym first) ∙ c.turn.ensures.is ∙ ap scanned_as c.in-Asked.is in
+    let h = look_stops (hears T.wanting T.heard) (hears_part T.wanting T.part) r t m _ _ _ _ _ _ _ c.in-Ok.ensures.means asked c.in_err-internal.ensures.does in
+    search (rules, h)
+
+pub look_by-returns-then-deep-ge-DEEPEST_QUANTITY-clause-does : goal.look_by-returns-then-deep-ge-DEEPEST_QUANTITY-clause-does
+look_by-returns-then-deep-ge-DEEPEST_QUANTITY-clause-does g t c =
+    let T = g.T.Teller in
+    let x = token_at c.args.self.now.names c.args.token in
+    let r = machine_rest c.args.machine.now in
+    let e = c.no_memory-then-deep-ge-DEEPEST_QUANTITY.ensures in
+    does_out (hears T.wanting T.heard) (hears_part T.wanting T.part) (λ c. look c r [] x) (lawful_look r [] x) c.no_memory-then-deep-ge-DEEPEST_QUANTITY.result c.args.self.now c.no_memory-then-deep-ge-DEEPEST_QUANTITY.new.self (T.faults c.args.tell.now) c.args.tell.now e.is e.kept
+
+pub next_looked-returns-in-None-2-clause-does : goal.next_looked-returns-in-None-2-clause-does
+next_looked-returns-in-None-2-clause-does g t c =
+    let T = g.T.Teller in
+    let f = c.in_ok-read-2.ensures.does in
+    let new = c.fetch_on.new.self in
+    let tell = c.fetch_on.new.tell in
+    let d = rw c.in-None-2.is at f in
+    let h = does_then (hears T.wanting T.heard) (hears_part T.wanting T.part) (λ c. c.fetch) counts lawful_fetch lawful_counts None _ _ _ _ _ _ _ _ _ _ d (does_silent (hears T.wanting T.heard) (hears_part T.wanting T.part) (counts None) (lawful_counts None) (Ok None) new new (T.faults tell) tell refl f.stops.kept tt (kept_itself new f.keeps.sound) (progress_itself new)) in
+    looked_as (hears T.wanting T.heard) (hears_part T.wanting T.part) false c.args.raw _ _ _ _ _ _ _ c.if-raw.false h
+
+pub next_looked-returns-in-None-clause-does : goal.next_looked-returns-in-None-clause-does
+next_looked-returns-in-None-clause-does g t c =
+    let T = g.T.Teller in
+    let e = c.in_ok-read.ensures in
+    let new = c.take_front.new.self in
+    let takes = rw c.in-None.is at e.takes in
+    let d = does_silent (hears T.wanting T.heard) (hears_part T.wanting T.part) (λ c. take) lawful_take (Ok None) c.args.self.now new (T.faults c.args.tell.now) c.args.tell.now takes e.kept e.limit e.keeps e.progress in
+    let h = does_then (hears T.wanting T.heard) (hears_part T.wanting T.part) (λ c. take) (λ o c. give (option_map as_itself o)) lawful_take (λ o. lawful_give (option_map as_itself o)) None _ _ _ _ _ _ _ _ _ _ d (does_now (hears T.wanting T.heard) (hears_part T.wanting T.part) None new (T.faults c.args.tell.now) c.args.tell.now e.keeps.sound e.kept) in
+    (looked_as (hears T.wanting T.heard) (hears_part T.wanting T.part) true c.args.raw _ _ _ _ _ _ _ c.if-raw.true h)
+
+pub next_looked-returns-in-Some-2-clause-does : goal.next_looked-returns-in-Some-2-clause-does
+next_looked-returns-in-Some-2-clause-does g t c =
+    let T = g.T.Teller in
+    let f = c.in_ok-read-2.ensures.does in
+    let e = c.counted.ensures in
+    let mid = c.fetch_on.new.self in
+    let new = c.counted.new.self in
+    let tell = c.fetch_on.new.tell in
+    let x = Some (read_at mid.names c.in-Some-2.read) in
+    let d = rw c.in-Some-2.is at f in
+    let k = does_as (hears T.wanting T.heard) (hears_part T.wanting T.part) (option_map (looked_at new.names)) (counts x) (lawful_counts x) c.counted.result mid new (T.faults tell) tell e.counts e.kept e.limit e.keeps e.progress in
+    let h = does_then (hears T.wanting T.heard) (hears_part T.wanting T.part) (λ c. c.fetch) counts lawful_fetch lawful_counts x _ _ _ _ _ _ _ _ _ _ d k in
+    looked_as (hears T.wanting T.heard) (hears_part T.wanting T.part) false c.args.raw _ _ _ _ _ _ _ c.if-raw.false h
+
+pub next_looked-returns-in-Some-clause-does : goal.next_looked-returns-in-Some-clause-does
+next_looked-returns-in-Some-clause-does g t c =
+    let T = g.T.Teller in
+    let e = c.in_ok-read.ensures in
+    let new = c.take_front.new.self in
+    let takes = rw c.in-Some.is at e.takes in
+    let d = does_silent (hears T.wanting T.heard) (hears_part T.wanting T.part) (λ c. take) lawful_take (Ok (Some (read_at c.take_front.new.self.names c.in-Some.read))) c.args.self.now new (T.faults c.args.tell.now) c.args.tell.now takes e.kept e.limit e.keeps e.progress in
+    let h = does_then (hears T.wanting T.heard) (hears_part T.wanting T.part) (λ c. take) (λ o c. give (option_map as_itself o)) lawful_take (λ o. lawful_give (option_map as_itself o)) (Some (read_at c.take_front.new.self.names c.in-Some.read)) _ _ _ _ _ _ _ _ _ _ d (does_now (hears T.wanting T.heard) (hears_part T.wanting T.part) (Some (as_itself (read_at c.take_front.new.self.names c.in-Some.read))) new (T.faults c.args.tell.now) c.args.tell.now e.keeps.sound e.kept) in
+    rw c.as_itself.ensures (looked_as (hears T.wanting T.heard) (hears_part T.wanting T.part) true c.args.raw _ _ _ _ _ _ _ c.if-raw.true h)
+
+pub next_looked-returns-in_err-read-2-clause-does : goal.next_looked-returns-in_err-read-2-clause-does
+next_looked-returns-in_err-read-2-clause-does g t c =
+    let T = g.T.Teller in
+    let h = does_stop (hears T.wanting T.heard) (hears_part T.wanting T.part) (λ c. c.fetch) counts lawful_fetch lawful_counts _ _ _ _ _ _ _ c.in_err-read-2.ensures.does in
+    let goal = looked_as (hears T.wanting T.heard) (hears_part T.wanting T.part) false c.args.raw _ _ _ _ _ _ _ c.if-raw.false h in
+    search (rules, goal)
+
+pub next_looked-returns-in_err-read-clause-does : goal.next_looked-returns-in_err-read-clause-does
+next_looked-returns-in_err-read-clause-does g t c =
+    let T = g.T.Teller in
+    let e = c.in_err-read.ensures in
+    let d = does_silent (hears T.wanting T.heard) (hears_part T.wanting T.part) (λ c. take) lawful_take _ c.args.self.now c.take_front.new.self (T.faults c.args.tell.now) c.args.tell.now e.takes e.kept e.limit tt e.progress in
+    let h = does_stop (hears T.wanting T.heard) (hears_part T.wanting T.part) (λ c. take) (λ o c. give (option_map as_itself o)) lawful_take (λ o. lawful_give (option_map as_itself o)) _ _ _ _ _ _ _ d in
+    let goal = looked_as (hears T.wanting T.heard) (hears_part T.wanting T.part) true c.args.raw _ _ _ _ _ _ _ c.if-raw.true h in
+    search (rules, goal)
+
+pub scan-returns-in-Err-clause-does : goal.scan-returns-in-Err-clause-does
+scan-returns-in-Err-clause-does g t c =
+    let T = g.T.Teller in
+    let r = machine_rest c.args.start in
+    let i = c.tokens.invariant.on in
+    let some = sym c.raw.ensures ∙ c.in-Some.is in
+    let mid = c.next_looked.new.self in
+    let d = rw c.in-Some-2.is at c.in_ok-looked.ensures.does in
+    let x = looked_at mid.names c.in-Some-2.looked in
+    let k = c.in_ok-look.ensures in
+    let lower = rw c.in-Some-2.is at c.in_ok-looked.ensures.lower in
+    let within = rw c.in-Some-2.is at c.in_ok-looked.ensures.within in
+    let on = scanning_on (hears T.wanting T.heard) (hears_part T.wanting T.part) r _ _ mid _ _ _ _ _ _ _ _ _ c.tokens.machine c.look_by.new.machine _ c.in_ok-look.next _ _ c.in-Some-2.looked c.in_ok-look.look i some d within.token lower k.does k.lower k.turned in
+    let e = c.no_memory.ensures in
+    let tell = c.look_by.new.tell in
+    scan_does (hears T.wanting T.heard) (hears_part T.wanting T.part) r _ _ c.look_by.new.self _ _ _ _ _ _ _ _ _ _ on (did_out (hears T.wanting T.heard) (hears_part T.wanting T.part) _ c.no_memory.result c.look_by.new.self c.no_memory.new.self (T.faults tell) tell e.is e.kept)
+
+pub scan-returns-in-None-clause-does : goal.scan-returns-in-None-clause-does
+scan-returns-in-None-clause-does g t c =
+    let T = g.T.Teller in
+    let r = machine_rest c.args.start in
+    let i = c.tokens.invariant.on in
+    let some = sym c.raw.ensures ∙ c.in-Some.is in
+    let d = rw c.in-None.is at c.in_ok-looked.ensures.does in
+    let e = c.decided_on-in-None.ensures in
+    let mid = c.next_looked.new.self in
+    let new = c.decided_on-in-None.new.self in
+    let tell = c.next_looked.new.tell in
+    let decides = rw c.deref-in-None.ensures.value at e.decides in
+    let u = did_silent (hears T.wanting T.heard) (hears_part T.wanting T.part) _ c.decided_on-in-None.result mid new (T.faults tell) tell decides e.kept e.limit e.keeps e.progress in
+    scan_ends (hears T.wanting T.heard) (hears_part T.wanting T.part) r c.decided_on-in-None.result _ _ mid _ _ _ _ _ _ _ _ _ _ _ _ _ _ i some d c.end.ensures.is c.end.ensures.over u
+
+pub scan-returns-in-None-clause-lower : goal.scan-returns-in-None-clause-lower
+scan-returns-in-None-clause-lower g t c =
+    does_lower _ _ (λ calls. calls.scan (machine_rest c.args.start) []) (lawful_scan (machine_rest c.args.start)) _ _ _ _ _ _ _ (scan-returns-in-None-clause-does g t c)
+
+pub scan-returns-in_default-clause-does : goal.scan-returns-in_default-clause-does
+scan-returns-in_default-clause-does g t c =
+    let T = g.T.Teller in
+    let r = machine_rest c.args.start in
+    let i = c.tokens.invariant.on in
+    let none = sym c.raw.ensures ∙ no_value c.raw.result c.in_default.not-Some in
+    let e = c.decided_on.ensures in
+    let now = c.tokens.self in
+    let new = c.decided_on.new.self in
+    let tell = c.tokens.tell in
+    let decides = rw c.deref.ensures.value at e.decides in
+    let d = did_silent (hears T.wanting T.heard) (hears_part T.wanting T.part) _ c.decided_on.result now new (T.faults tell) tell decides e.kept e.limit e.keeps e.progress in
+    scan_decides (hears T.wanting T.heard) (hears_part T.wanting T.part) r c.decided_on.result _ _ _ _ _ _ _ _ _ _ _ _ i none d
+
+pub scan-returns-in_default-clause-lower : goal.scan-returns-in_default-clause-lower
+scan-returns-in_default-clause-lower g t c =
+    does_lower _ _ (λ calls. calls.scan (machine_rest c.args.start) []) (lawful_scan (machine_rest c.args.start)) _ _ _ _ _ _ _ (scan-returns-in_default-clause-does g t c)
+
+pub scan-returns-in_err-look-clause-does : goal.scan-returns-in_err-look-clause-does
+scan-returns-in_err-look-clause-does g t c =
+    let T = g.T.Teller in
+    let r = machine_rest c.args.start in
+    let i = c.tokens.invariant.on in
+    let some = sym c.raw.ensures ∙ c.in-Some.is in
+    let mid = c.next_looked.new.self in
+    let d = rw c.in-Some-2.is at c.in_ok-looked.ensures.does in
+    let x = looked_at mid.names c.in-Some-2.looked in
+    let h = scan_unseen (hears T.wanting T.heard) (hears_part T.wanting T.part) r _ _ _ mid _ _ _ _ _ _ _ _ _ _ _ _ _ x i some d c.in_err-look.ensures.does in
+    search (rules, h)
+
+pub scan-returns-in_err-looked-clause-does : goal.scan-returns-in_err-looked-clause-does
+scan-returns-in_err-looked-clause-does g t c =
+    let T = g.T.Teller in
+    let r = machine_rest c.args.start in
+    let i = c.tokens.invariant.on in
+    let some = sym c.raw.ensures ∙ c.in-Some.is in
+    let h = scan_stops (hears T.wanting T.heard) (hears_part T.wanting T.part) r _ _ _ _ _ _ _ _ _ _ _ _ _ _ i some c.in_err-looked.ensures.does in
+    search (rules, h)
+
+pub scan-rounds-preserved : goal.scan-rounds-preserved
+scan-rounds-preserved g t c =
+    let T = g.T.Teller in
+    let r = machine_rest c.args.start in
+    let i = c.tokens.invariant.on in
+    let some = sym c.raw.ensures ∙ c.in-Some.is in
+    let mid = c.next_looked.new.self in
+    let d = rw c.in-Some-2.is at c.in_ok-looked.ensures.does in
+    let x = looked_at mid.names c.in-Some-2.looked in
+    let k = c.in_ok-look.ensures in
+    let lower = rw c.in-Some-2.is at c.in_ok-looked.ensures.lower in
+    let within = rw c.in-Some-2.is at c.in_ok-looked.ensures.within in
+    let on = scanning_on (hears T.wanting T.heard) (hears_part T.wanting T.part) r _ _ mid _ _ _ _ _ _ _ _ _ c.tokens.machine c.look_by.new.machine _ c.in_ok-look.next _ _ c.in-Some-2.looked c.in_ok-look.look i some d within.token lower k.does k.lower k.turned in
+    rw c.in-Ok.ensures.items on
+
+pub scan-tokens-preserved : goal.scan-tokens-preserved
+scan-tokens-preserved g t c =
+    let T = g.T.Teller in
+    let r = machine_rest c.args.start in
+    let i = c.tokens.invariant.on in
+    let some = sym c.raw.ensures ∙ c.in-Some.is in
+    let mid = c.next_looked.new.self in
+    let d = rw c.in-Some-2.is at c.in_ok-looked.ensures.does in
+    let x = looked_at mid.names c.in-Some-2.looked in
+    let k = c.in_ok-look.ensures in
+    let lower = rw c.in-Some-2.is at c.in_ok-looked.ensures.lower in
+    let within = rw c.in-Some-2.is at c.in_ok-looked.ensures.within in
+    let on = scanning_on (hears T.wanting T.heard) (hears_part T.wanting T.part) r _ _ mid _ _ _ _ _ _ _ _ _ c.tokens.machine c.look_by.new.machine _ c.in_ok-look.next _ _ c.in-Some-2.looked c.in_ok-look.look i some d within.token lower k.does k.lower k.turned in
+    let l = c.tokens.invariant in
+    record { on = rw c.in-Ok.ensures.items on; begun = sym c.begun.ensures ∙ c.if-begun.false; same = l.same; limit = k.does.progress.limit ∙ d.progress.limit ∙ l.limit }
+
+pub the-returns-clause-does : goal.the-returns-clause-does
+the-returns-clause-does g t c =
+    let T = g.T.Teller in
+    let mid = c.next_looked.new.self in
+    let tell = c.next_looked.new.tell in
+    let x = looked_at mid.names c.in-Some.looked in
+    let d = rw c.in-Some.is at c.in_ok-looked.ensures.does in
+    let m = meaning_at mid.names c.in-Ok.meaning in
+    let e = c.shown.ensures in
+    let now = c.internal.new.self in
+    let new = c.shown.new.self in
+    let last = c.internal.new.tell in
+    let q = internal_at now.names c.in_ok-internal.internal in
+    let u = does_as (hears T.wanting T.heard) (hears_part T.wanting T.part) (tokens_at new.names) (λ c. give (shown q)) (lawful_give (shown q)) c.shown.result now new (T.faults last) last (by_new tokens_at _ _ now new e.writes e.same) e.kept e.limit e.keeps e.progress in
+    let k = shown_then (hears T.wanting T.heard) (hears_part T.wanting T.part) x m q _ _ _ _ _ _ _ _ _ _ c.in-Ok.ensures.means c.in_ok-internal.ensures.does u in
+    the_behind (hears T.wanting T.heard) (hears_part T.wanting T.part) x _ _ _ _ _ _ _ _ _ _ d k
+
+pub the-returns-in-Err-clause-does : goal.the-returns-in-Err-clause-does
+the-returns-in-Err-clause-does g t c =
+    let T = g.T.Teller in
+    let mid = c.next_looked.new.self in
+    let tell = c.next_looked.new.tell in
+    let x = looked_at mid.names c.in-Some.looked in
+    let d = rw c.in-Some.is at c.in_ok-looked.ensures.does in
+    let e = c.no_memory.ensures in
+    let k = does_out (hears T.wanting T.heard) (hears_part T.wanting T.part) (shown_now x) (lawful_shown_now x) c.no_memory.result mid c.no_memory.new.self (T.faults tell) tell e.is e.kept in
+    the_behind (hears T.wanting T.heard) (hears_part T.wanting T.part) x _ _ _ _ _ _ _ _ _ _ d k
+
+pub the-returns-in-None-clause-does : goal.the-returns-in-None-clause-does
+the-returns-in-None-clause-does g t c =
+    let T = g.T.Teller in
+    let d = rw c.in-None.is at c.in_ok-looked.ensures.does in
+    the_ends (hears T.wanting T.heard) (hears_part T.wanting T.part) c.bare_fault.result _ c.next_looked.new.self c.bare_fault.new.self _ _ _ _ d c.bare_fault.ensures.is c.bare_fault.ensures.kept
+
+pub the-returns-in_err-internal-clause-does : goal.the-returns-in_err-internal-clause-does
+the-returns-in_err-internal-clause-does g t c =
+    let T = g.T.Teller in
+    let mid = c.next_looked.new.self in
+    let tell = c.next_looked.new.tell in
+    let x = looked_at mid.names c.in-Some.looked in
+    let d = rw c.in-Some.is at c.in_ok-looked.ensures.does in
+    let m = meaning_at mid.names c.in-Ok.meaning in
+    let k = shown_stops (hears T.wanting T.heard) (hears_part T.wanting T.part) x m _ _ _ _ _ _ _ c.in-Ok.ensures.means c.in_err-internal.ensures.does in
+    let h = the_behind (hears T.wanting T.heard) (hears_part T.wanting T.part) x _ _ _ _ _ _ _ _ _ _ d k in
+    search (rules, h)
+
+pub the-returns-in_err-looked-clause-does : goal.the-returns-in_err-looked-clause-does
+the-returns-in_err-looked-clause-does g t c =
+    let h = the_stops _ _ _ _ _ _ _ _ _ c.in_err-looked.ensures.does in
+    search (rules, h)
+
+pub look_by-returns-in_default : goal.look_by-returns-in_default
+look_by-returns-in_default g t c =
+    let T = g.T.Teller in
+    let mine = c.args.self.now in
+    let tell = c.args.tell.now in
+    let t = token_at mine.names c.args.token in
+    let m = meaning_at mine.names c.in-Ok.meaning in
+    let r = machine_rest c.args.machine.now in
+    let names = ap (λ (h : Held). h.names) c.self.view_is in
+    let first = c.looked_at-look.ensures ∙ ap (λ texts. look_of (token_at texts c.args.token) c.in-Ok.meaning Nothing) names ∙ look_at mine.names t c.in-Ok.meaning Nothing in
+    let is = ap (λ l. r (l ∷ [])) (sym first) ∙ c.turn.ensures.is in
+    let d = look_now (hears T.wanting T.heard) (hears_part T.wanting T.part) r t m c.turn.result mine (T.faults tell) tell c.requires.sound c.requires.running c.in-Ok.ensures.means is c.in_default.not-Asked in
+    record { does = subst (λ l. Does (hears T.wanting T.heard) (hears_part T.wanting T.part) (λ n. look (level n) r [] t) (Ok l) mine mine (T.faults tell) (T.faults tell) tell tell) (sym first) d; turned = record { is = c.turn.ensures.is; on = c.turn.ensures.on }; lower = lower_none (state_of mine) }

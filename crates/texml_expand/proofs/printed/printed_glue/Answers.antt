@@ -1,0 +1,11 @@
+use Rattle.std.proofs.Common.{◌++◌, ap, ◌∙◌}
+use Rattle.texml_fixed.specs.declared.glue.Order.TheVariants.{Pt}
+use Rattle.texml_expand.specs.Printed.{printed_measure}
+use Rattle.texml_expand.proofs.Printing.{written, three_parts}
+use Rattle.texml_expand.proofs.printed.printed_glue.Goals as goal
+
+pub returns-clause-is : goal.returns-clause-is
+returns-clause-is c =
+    written c.tokens_of.result _ _
+    (c.as_slice.ensures
+    ∙ three_parts _ _ _ _ _ _ (c.in_ok-put_measure.ensures ∙ ap (λ t. t ++ printed_measure c.args.value.width Pt) c.new-text.ensures) c.in_ok-put_amount.ensures c.in_ok-put_amount-2.ensures) c.tokens_of.ensures.is

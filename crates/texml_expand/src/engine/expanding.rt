@@ -1,0 +1,692 @@
+//! Fetching, expanding and looking at tokens for quantities: these lead back to each other.
+
+ghost use Rattle.std.specs.Prelude.{◌≡◌, ◌+◌, ◌-◌, ◌≤◌, ◌∷◌, ◌++◌, Some, None, [], length, map, IfSome, IsSome, IfOk, OnOk, option_map, option_to_list, pos};
+ghost use Rattle.std.specs.List.{All};
+ghost use Rattle.texml_token.specs.Numbers.{token_at, tokens_at, TokenWithin, TokensWithin, OptionWithin};
+ghost use Rattle.texml_scope.specs.Numbers.{meaning_at, MeaningWithin};
+ghost use Rattle.texml_scan.specs.Grammar.{Expanded, Raw};
+ghost use Rattle.texml_expand.specs.Rest.{Tok};
+ghost use Rattle.texml_expand.specs.Next.{Taken};
+ghost use Rattle.texml_expand.specs.Take.{meaning_of};
+ghost use Rattle.texml_expand.specs.State.{tell as spec_tell};
+ghost use Rattle.texml_expand.specs.Calls.{expandable};
+ghost use Rattle.texml_expand.specs.Expand.{front_taken, begin, finish, record_of, level};
+ghost use Rattle.texml_expand.specs.Expand.{front as spec_front, given as spec_given, fetch as spec_fetch, look as spec_look, expand_once as spec_expand_once, read_int as spec_read_int, read_index as spec_read_index};
+ghost use Rattle.texml_expand.specs.Quantities.{next_looked, as_it_counts};
+ghost use Rattle.texml_expand.specs.Variables.{variable_at as spec_variable_at};
+ghost use Rattle.texml_expand.specs.Quantities.{the as spec_the, internal as spec_internal, internal_of, look as look_in};
+ghost use Rattle.texml_expand.specs.Fronts.{front_at, front_count, FrontWithin, is_undefined as means_nothing, expandable_at, ExpandableWithin, builtin_in, expandable_in, frozen_in, looked_at as looked_at_by, LookedWithin};
+ghost use Rattle.texml_expand.specs.VariableCodes.{internal_at, InternalWithin, HasNumber};
+ghost use Rattle.texml_expand.specs.Machine.{machine_rest};
+ghost use Rattle.texml_expand.specs.Scanning.{Turned};
+ghost use Rattle.texml_expand.specs.Held.{state_of, Sound, Kept, Progress, IsAtLimit, ok_at, read_at, ReadWithin};
+ghost use Rattle.texml_expand.specs.Contract.{Silent, AnswersKept, Lower, Begins, Stops, outside, stop_after};
+ghost use Rattle.texml_expand.specs.Hearing.{hears, hears_part, Meets, Follows};
+ghost use Rattle.texml_expand.specs.Doing.{Does};
+
+use super::{ESCAPE, Engine};
+use crate::internal::{Internal, held_of};
+use crate::machine::{Machine, Scanned, Value};
+use crate::rest::Read;
+use crate::stop::Stop;
+use crate::variables::{Index, index_of, key_of, variable_at};
+use std::alloc::AllocError;
+use texml_base::{Files, Trouble};
+use texml_scan::{Held, IntScan, Look, looked_at};
+use texml_scope::builtins::{NUMBER, ROMANNUMERAL, THE};
+use texml_scope::{Macro, Meaning};
+use texml_token::{Bytes, Name, Token, Tokens, fault_code, show, spell};
+use texml_watch::{Record, Teller};
+
+// How many expansions may be open within each other.
+const DEEPEST: usize = 400;
+
+// How many internal quantities may be read within each other. Beyond that there is no stack: it is want of memory.
+const DEEPEST_QUANTITY: usize = 1000;
+
+// The fixed `\relax`.
+const FIXED: Token = Token::Named(Name(0));
+
+// What can be expanded: the call of a macro, or a builtin.
+#[derive(Drop)]
+pub(super) enum Expandable {
+    Call(Macro),
+    Number,
+    RomanNumeral,
+    The,
+}
+
+// What stands at the front: nothing, a token that isn't expanded, or one that is, and what it expands as.
+#[derive(Drop)]
+enum Front {
+    Nothing,
+    Plain(Read),
+    Expands(Token, Expandable),
+}
+
+/// A token that is looked at, and what it counts as: the fixed `\relax` where it is kept from being expanded and could be, or has
+/// no meaning.
+#[derive(Clone, Copy, Debug, PartialEq, Eq)]
+pub struct Looked {
+    pub token: Token,
+    pub counts: Token,
+}
+
+// A token that was looked at for a quantity, and its look.
+#[derive(Clone, Copy, Debug, Drop)]
+pub(super) struct Seen {
+    pub(super) token: Token,
+    pub(super) look: Look,
+}
+
+impl Engine {
+    /// Fetches the next token that can't be expanded: while the one that stands first can be, it is expanded. It answers
+    /// `None` at the end of what is to be read. A token that is kept from being expanded counts as the fixed `\relax` where
+    /// it could be, or has no meaning. Each completed expansion is told to `tell`, where that wants records, when it is
+    /// completed. It reads no file yet (The TeXbook, chapter 20).
+    ///
+    /// # Errors
+    ///
+    /// `Tex` with fault 15 where an invalid character stands there, with fault 1 about the spelling of a token without a
+    /// meaning, and with the faults of `expand_once`. `Limit` where one expansion too many would begin.
+    /// `TellFailed` only where the count of faults of `tell` rose in this call, `NoMemory` where memory was refused; the
+    /// records told until then are the first of those that would be told. And the stop that is kept.
+    pub fn fetch<F: Files, T: Teller>(
+        &mut self,
+        files: &mut F,
+        tell: &mut T,
+    ) -> Result<Option<Token>, Stop>
+        requires { self.old.stop ≡ None → Sound self.old }
+        ensures follows { self.old.stop ≡ None → Follows (hears T.wanting T.heard) (hears_part T.wanting T.part) (λ n. spec_fetch n (state_of self.old))
+            (ok_at (option_map (token_at self.new.names)) result) (state_of self.new) tell.old tell.new }
+        ensures stops { self.old.stop ≡ None → Stops result (outside (F.faults files.old) (T.faults tell.old)) (outside (F.faults files.new) (T.faults tell.new)) self.new.stop }
+        ensures lower { self.old.stop ≡ None → IfOk result (λ o. Lower (length (option_to_list o)) (state_of self.old) (state_of self.new)) }
+        ensures progress { Progress self.old self.new }
+        ensures limit { self.old.stop ≡ None → IsAtLimit result self.new }
+        ensures keeps { self.old.stop ≡ None → OnOk result (Kept self.old self.new) }
+        ensures within { self.old.stop ≡ None → IfOk result (OptionWithin (TokenWithin (length self.new.names))) }
+        ensures stays { IfSome self.old.stop (λ stop. AnswersKept stop result × (self.new ≡ self.old) × (tell.new ≡ tell.old)) }
+        ensures files { files.new ≡ files.old }
+    {
+        self.running()?;
+        match self.next_looked(tell, false, 0)? {
+            Some(looked) => Ok(Some(looked.counts)),
+            None => Ok(None),
+        }
+    }
+
+    /// Fetches the next token that isn't expanded, as `fetch` does, and answers it as it is, with what it counts as. Where it goes
+    /// back it isn't kept from being expanded any more.
+    ///
+    /// # Errors
+    ///
+    /// Those of `fetch`.
+    pub fn look<F: Files, T: Teller>(
+        &mut self,
+        files: &mut F,
+        tell: &mut T,
+    ) -> Result<Option<Looked>, Stop>
+        requires { self.old.stop ≡ None → Sound self.old }
+        ensures follows { self.old.stop ≡ None → Follows (hears T.wanting T.heard) (hears_part T.wanting T.part) (λ n. spec_look n (state_of self.old))
+            (ok_at (option_map (looked_at_by self.new.names)) result) (state_of self.new) tell.old tell.new }
+        ensures stops { self.old.stop ≡ None → Stops result (outside (F.faults files.old) (T.faults tell.old)) (outside (F.faults files.new) (T.faults tell.new)) self.new.stop }
+        ensures lower { self.old.stop ≡ None → IfOk result (λ o. Lower (length (option_to_list o)) (state_of self.old) (state_of self.new)) }
+        ensures progress { Progress self.old self.new }
+        ensures limit { self.old.stop ≡ None → IsAtLimit result self.new }
+        ensures keeps { self.old.stop ≡ None → OnOk result (Kept self.old self.new) }
+        ensures within { self.old.stop ≡ None → IfOk result (OptionWithin (LookedWithin (length self.new.names))) }
+        ensures stays { IfSome self.old.stop (λ stop. AnswersKept stop result × (self.new ≡ self.old) × (tell.new ≡ tell.old)) }
+        ensures files { files.new ≡ files.old }
+    {
+        self.running()?;
+        self.next_looked(tell, false, 0)
+    }
+
+    /// Expands a token once: its arguments are read, its tokens are put before what is to be read, and the expansion is told to
+    /// `tell`, where that wants records. It reads no file yet (The TeXbook, chapter 20).
+    ///
+    /// # Errors
+    ///
+    /// `Tex` with fault 25 where 400 expansions are open; and of its arguments with fault 5 at a token before the first that
+    /// doesn't match the parameter text, with fault 2 at a brace that ends a group which hasn't begun, with fault 3 at a
+    /// `\par` that may not stand there, with fault 4 where a text ends before the last is read, and with fault 15 where an
+    /// invalid character stands among them. `Limit` where one expansion too many would begin. `TellFailed`
+    /// only where the count of faults of `tell` rose in this call, `NoMemory` where memory was refused, and the stop that is
+    /// kept.
+    pub fn expand_once<F: Files, T: Teller>(
+        &mut self,
+        files: &mut F,
+        tell: &mut T,
+        token: Token,
+    ) -> Result<(), Stop>
+        requires sound { self.old.stop ≡ None → Sound self.old }
+        requires token { self.old.stop ≡ None → TokenWithin (length self.old.names) token }
+        requires expandable { self.old.stop ≡ None → IsSome (expandable (meaning_of (state_of self.old).world (token_at self.old.names token))) }
+        ensures follows { self.old.stop ≡ None → Follows (hears T.wanting T.heard) (hears_part T.wanting T.part)
+            (λ n. spec_expand_once (token_at self.old.names token) n (state_of self.old)) result (state_of self.new) tell.old tell.new }
+        ensures stops { self.old.stop ≡ None → Stops result (outside (F.faults files.old) (T.faults tell.old)) (outside (F.faults files.new) (T.faults tell.new)) self.new.stop }
+        ensures begins { self.old.stop ≡ None → OnOk result (Begins (state_of self.old) (state_of self.new)) }
+        ensures progress { Progress self.old self.new }
+        ensures limit { self.old.stop ≡ None → IsAtLimit result self.new }
+        ensures keeps { self.old.stop ≡ None → OnOk result (Kept self.old self.new) }
+        ensures stays { IfSome self.old.stop (λ stop. AnswersKept stop result × (self.new ≡ self.old) × (tell.new ≡ tell.old)) }
+        ensures files { files.new ≡ files.old }
+    {
+        self.running()?;
+        let meaning = match self.meaning(token) {
+            Ok(meaning) => meaning,
+            Err(_) => return Err(self.no_memory()),
+        };
+        match expandable_by(meaning) {
+            Some(found) => self.expand(tell, token, found, 0),
+            None => unreachable!(),
+        }
+    }
+
+    // Takes the front.
+    fn front(&mut self) -> Result<Front, Stop>
+        requires running { self.old.stop ≡ None }
+        requires sound { Sound self.old }
+        ensures fronts { Silent (spec_front (state_of self.old)) (ok_at (front_at self.new.names) result) (state_of self.new) }
+        ensures kept { self.new.stop ≡ stop_after result }
+        ensures lower { IfOk result (λ f. Lower (front_count f) (state_of self.old) (state_of self.new)) }
+        ensures progress { Progress self.old self.new }
+        ensures keeps { OnOk result (Kept self.old self.new) }
+        ensures limit { IsAtLimit result self.new }
+        ensures within { IfOk result (FrontWithin (length self.new.names)) }
+    {
+        match self.take_front()? {
+            None => Ok(Front::Nothing),
+            Some(read) => self.judge(read),
+        }
+    }
+
+    // What a token that was taken is.
+    fn judge(&mut self, read: Read) -> Result<Front, Stop>
+        requires running { self.old.stop ≡ None }
+        requires sound { Sound self.old }
+        requires token { TokenWithin (length self.old.names) read.token }
+        ensures judges { Silent (front_taken (Some (read_at self.old.names read)) (state_of self.old)) (ok_at (front_at self.old.names) result) (state_of self.old) }
+        ensures kept { self.new.stop ≡ stop_after result }
+        ensures same { OnOk result (self.new ≡ self.old) }
+        ensures progress { Progress self.old self.new }
+        ensures limit { IsAtLimit result self.new }
+        ensures count { IfOk result (λ f. front_count f ≡ 1) }
+        ensures within { IfOk result (FrontWithin (length self.old.names)) }
+    {
+        if read.frozen {
+            return Ok(Front::Plain(read));
+        }
+        let meaning = match self.meaning(read.token) {
+            Ok(meaning) => meaning,
+            Err(_) => return Err(self.no_memory()),
+        };
+        if is_undefined(&meaning) {
+            return Err(self.undefined(read.token));
+        }
+        match expandable_by(meaning) {
+            None => Ok(Front::Plain(read)),
+            Some(found) => Ok(Front::Expands(read.token, found)),
+        }
+    }
+
+    // The next token that isn't expanded.
+    #[cycle(expanding)]
+    fn fetch_on<T: Teller>(&mut self, tell: &mut T, deep: usize) -> Result<Option<Read>, Stop>
+        requires running { self.old.stop ≡ None }
+        requires sound { Sound self.old }
+        ensures does { Does (hears T.wanting T.heard) (hears_part T.wanting T.part)
+            (λ n. (level n).fetch) (ok_at (option_map (read_at self.new.names)) result) self.old self.new (T.faults tell.old) (T.faults tell.new) tell.old tell.new }
+        ensures lower { IfOk result (λ o. Lower (length (option_to_list o)) (state_of self.old) (state_of self.new)) }
+        ensures within { IfOk result (OptionWithin (ReadWithin (length self.new.names))) }
+    {
+        'fronts: loop {
+            match self.front()? {
+                Front::Nothing => return Ok(None),
+                Front::Plain(read) => return Ok(Some(read)),
+                Front::Expands(token, found) => self.expand(tell, token, found, deep)?,
+            }
+        }
+    }
+
+    // An expansion of a token.
+    #[cycle(expanding)]
+    fn expand<T: Teller>(
+        &mut self,
+        tell: &mut T,
+        token: Token,
+        found: Expandable,
+        deep: usize,
+    ) -> Result<(), Stop>
+        requires running { self.old.stop ≡ None }
+        requires sound { Sound self.old }
+        requires token { TokenWithin (length self.old.names) token }
+        requires found { ExpandableWithin (length self.old.names) found }
+        ensures does { Does (hears T.wanting T.heard) (hears_part T.wanting T.part)
+            (λ n. (level n).expand (token_at self.old.names token) (expandable_at self.old.names found)) (result) self.old self.new (T.faults tell.old) (T.faults tell.new) tell.old tell.new }
+        ensures begins { OnOk result (Begins (state_of self.old) (state_of self.new)) }
+    {
+        self.begin()?;
+        let list = self.given(tell, found, deep)?;
+        self.finish(tell, token, &list)
+    }
+
+    // Begins an expansion.
+    fn begin(&mut self) -> Result<(), Stop>
+        requires { self.old.stop ≡ None }
+        ensures begins { Silent (begin (state_of self.old)) result (state_of self.new) }
+        ensures kept { self.new.stop ≡ stop_after result }
+        ensures is { OnOk result (self.new ≡ record self.old { begun = self.old.begun + 1; nesting = self.old.nesting + 1 }) }
+        ensures within { OnOk result (self.new.begun ≤ self.new.limit) }
+        ensures progress { Progress self.old self.new }
+        ensures limit { IsAtLimit result self.new }
+    {
+        if !self.budget.begin() {
+            let limit = self.budget.begun();
+            self.stop_with(Stop::Limit(limit));
+            return Err(Stop::Limit(limit));
+        }
+        if self.nesting >= DEEPEST {
+            return Err(self.bare_fault(fault_code::DEPTH));
+        }
+        self.nesting += 1;
+        Ok(())
+    }
+
+    // Ends an expansion, whose tokens are put before what is to be read, and tells of it.
+    fn finish<T: Teller>(&mut self, tell: &mut T, token: Token, list: &Tokens) -> Result<(), Stop>
+        requires running { self.old.stop ≡ None }
+        requires nested { 1 ≤ self.old.nesting }
+        requires token { TokenWithin (length self.old.names) token }
+        requires list { TokensWithin (length self.old.names) list.now }
+        ensures finishes { Meets (hears T.wanting T.heard) (hears_part T.wanting T.part)
+            (finish (token_at self.old.names token) (tokens_at self.old.names list.now) (state_of self.old)) result (state_of self.new) tell.old tell.new }
+        ensures stops { Stops result (outside 0 (T.faults tell.old)) (outside 0 (T.faults tell.new)) self.new.stop }
+        ensures is { OnOk result (self.new ≡ record self.old { items = map Tok list.now ++ self.old.items; nesting = self.old.nesting - 1 }) }
+        ensures progress { Progress self.old self.new }
+        ensures limit { IsAtLimit result self.new }
+    {
+        match self.rest.push_tokens(list.as_slice()) {
+            Ok(()) => {
+                self.nesting -= 1;
+                self.tell_of(tell, token, list)
+            }
+            Err(_) => Err(self.no_memory()),
+        }
+    }
+
+    // Tells of an expansion, where that is wanted.
+    fn tell_of<T: Teller>(&mut self, tell: &mut T, token: Token, list: &Tokens) -> Result<(), Stop>
+        requires running { self.old.stop ≡ None }
+        requires token { TokenWithin (length self.old.names) token }
+        requires list { TokensWithin (length self.old.names) list.now }
+        ensures told { Meets (hears T.wanting T.heard) (hears_part T.wanting T.part)
+            (spec_tell (record_of (token_at self.old.names token) (tokens_at self.old.names list.now)) (state_of self.old)) result (state_of self.new) tell.old tell.new }
+        ensures stops { Stops result (outside 0 (T.faults tell.old)) (outside 0 (T.faults tell.new)) self.new.stop }
+        ensures same { OnOk result (self.new ≡ self.old) }
+        ensures progress { Progress self.old self.new }
+        ensures limit { IsAtLimit result self.new }
+    {
+        if !tell.wants() {
+            return Ok(());
+        }
+        let news = match self.record_of(token, list) {
+            Ok(news) => news,
+            Err(_) => return Err(self.no_memory()),
+        };
+        match tell.tell(&news) {
+            Ok(()) => Ok(()),
+            Err(Trouble::Failed) => {
+                self.stop_with(Stop::TellFailed);
+                Err(Stop::TellFailed)
+            }
+            Err(Trouble::NoMemory) => Err(self.no_memory()),
+        }
+    }
+
+    // The record of an expansion.
+    fn record_of(&self, token: Token, list: &Tokens) -> Result<Record, AllocError>
+        requires token { TokenWithin (length self.now.names) token }
+        requires list { TokensWithin (length self.now.names) list.now }
+        ensures { IfOk result (λ news. news ≡ record_of (token_at self.now.names token) (tokens_at self.now.names list.now)) }
+    {
+        let mut spelled = Bytes::new(self.alloc);
+        spell(token, ESCAPE, &self.names, &mut spelled)?;
+        let mut shown = Bytes::new(self.alloc);
+        show(list, &self.names, &mut shown)?;
+        Ok(Record {
+            token: spelled,
+            put: shown,
+            file: Bytes::new(self.alloc),
+        })
+    }
+
+    // What an expansion gives.
+    #[cycle(expanding)]
+    fn given<T: Teller>(
+        &mut self,
+        tell: &mut T,
+        found: Expandable,
+        deep: usize,
+    ) -> Result<Tokens, Stop>
+        requires running { self.old.stop ≡ None }
+        requires sound { Sound self.old }
+        requires found { ExpandableWithin (length self.old.names) found }
+        ensures does { Does (hears T.wanting T.heard) (hears_part T.wanting T.part)
+            (λ n. spec_given (level n) (expandable_at self.old.names found)) (ok_at (tokens_at self.new.names) result) self.old self.new (T.faults tell.old) (T.faults tell.new) tell.old tell.new }
+        ensures lower { OnOk result (Lower 0 (state_of self.old) (state_of self.new)) }
+        ensures within { IfOk result (TokensWithin (length self.new.names)) }
+    {
+        match found {
+            Expandable::Call(found) => self.called(found),
+            Expandable::Number => {
+                let value = self.int(tell, deep)?;
+                self.number(value)
+            }
+            Expandable::RomanNumeral => {
+                let value = self.int(tell, deep)?;
+                self.roman_numeral(value)
+            }
+            Expandable::The => self.the(tell, deep),
+        }
+    }
+
+    // What `\the` gives: the quantity or the list of tokens that begins with the next token.
+    #[cycle(expanding)]
+    fn the<T: Teller>(&mut self, tell: &mut T, deep: usize) -> Result<Tokens, Stop>
+        requires running { self.old.stop ≡ None }
+        requires sound { Sound self.old }
+        ensures does { Does (hears T.wanting T.heard) (hears_part T.wanting T.part)
+            (λ n. spec_the (level n)) (ok_at (tokens_at self.new.names) result) self.old self.new (T.faults tell.old) (T.faults tell.new) tell.old tell.new }
+        ensures lower { OnOk result (Lower 0 (state_of self.old) (state_of self.new)) }
+        ensures within { IfOk result (TokensWithin (length self.new.names)) }
+    {
+        let looked = match self.next_looked(tell, false, deep)? {
+            Some(looked) => looked,
+            None => return Err(self.bare_fault(fault_code::FILE_ENDED)),
+        };
+        let meaning = match self.means(looked.counts) {
+            Ok(meaning) => meaning,
+            Err(_) => return Err(self.no_memory()),
+        };
+        let internal = self.internal(tell, &meaning, deep)?;
+        self.shown(internal)
+    }
+
+    // The next token, as it stands or expanded, and what it counts as.
+    #[cycle(expanding)]
+    pub(super) fn next_looked<T: Teller>(
+        &mut self,
+        tell: &mut T,
+        raw: bool,
+        deep: usize,
+    ) -> Result<Option<Looked>, Stop>
+        requires running { self.old.stop ≡ None }
+        requires sound { Sound self.old }
+        ensures does { Does (hears T.wanting T.heard) (hears_part T.wanting T.part)
+            (λ n. next_looked (level n) raw) (ok_at (option_map (looked_at_by self.new.names)) result) self.old self.new (T.faults tell.old) (T.faults tell.new) tell.old tell.new }
+        ensures lower { IfOk result (λ o. Lower (length (option_to_list o)) (state_of self.old) (state_of self.new)) }
+        ensures within { IfOk result (OptionWithin (LookedWithin (length self.new.names))) }
+    {
+        if raw {
+            return match self.take_front()? {
+                Some(read) => Ok(Some(as_itself(read))),
+                None => Ok(None),
+            };
+        }
+        match self.fetch_on(tell, deep)? {
+            Some(read) => self.counted(read),
+            None => Ok(None),
+        }
+    }
+
+    // What a token that was fetched counts as.
+    fn counted(&mut self, read: Read) -> Result<Option<Looked>, Stop>
+        requires running { self.old.stop ≡ None }
+        requires sound { Sound self.old }
+        requires token { TokenWithin (length self.old.names) read.token }
+        ensures counts { Silent (as_it_counts (Some (read_at self.old.names read)) (state_of self.old)) (ok_at (option_map (looked_at_by self.new.names)) result) (state_of self.new) }
+        ensures kept { self.new.stop ≡ stop_after result }
+        ensures progress { Progress self.old self.new }
+        ensures limit { IsAtLimit result self.new }
+        ensures keeps { OnOk result (Kept self.old self.new) }
+        ensures same { OnOk result (self.new ≡ self.old) }
+        ensures one { IfOk result (λ o. length (option_to_list o) ≡ 1) }
+        ensures within { IfOk result (OptionWithin (LookedWithin (length self.new.names))) }
+    {
+        if !read.frozen {
+            return Ok(Some(as_itself(read)));
+        }
+        let meaning = match self.meaning(read.token) {
+            Ok(meaning) => meaning,
+            Err(_) => return Err(self.no_memory()),
+        };
+        Ok(Some(Looked {
+            token: read.token,
+            counts: frozen_as(read.token, meaning),
+        }))
+    }
+
+    // What a scanner reads: the shortest list of tokens that decides. Those that aren't part of it go back.
+    #[cycle(expanding)]
+    pub(super) fn scan<T: Teller>(
+        &mut self,
+        tell: &mut T,
+        start: Machine<'_>,
+        deep: usize,
+    ) -> Result<Value, Stop>
+        requires running { self.old.stop ≡ None }
+        requires sound { Sound self.old }
+        ensures does { Does (hears T.wanting T.heard) (hears_part T.wanting T.part)
+            (λ n. (level n).scan (machine_rest start.entry) []) (result) self.old self.new (T.faults tell.old) (T.faults tell.new) tell.old tell.new }
+        ensures lower { OnOk result (Lower 0 (state_of self.old) (state_of self.new)) }
+    {
+        let mut machine = start;
+        let mut scanned = machine.first();
+        let mut seen = Vec::new(self.alloc);
+        'rounds: loop {
+            let begun = self.begun();
+            'tokens: loop {
+                let Some(raw) = scanned.raw() else {
+                    return self.decided_on(scanned, &seen);
+                };
+                let looked = match self.next_looked(tell, raw, deep)? {
+                    Some(looked) => looked,
+                    None => return self.decided_on(machine.end(), &seen),
+                };
+                let (look, next) = self.look_by(tell, &mut machine, looked.counts, deep)?;
+                scanned = next;
+                match seen.push(Seen {
+                    token: looked.token,
+                    look,
+                }) {
+                    Ok(()) => {}
+                    Err(_) => return Err(self.no_memory()),
+                }
+                if self.begun() != begun {
+                    break;
+                }
+            }
+        }
+    }
+
+    // The look of a token, with the quantity that it begins where one is asked for, and what a scanner makes of it.
+    #[cycle(expanding)]
+    fn look_by<T: Teller>(
+        &mut self,
+        tell: &mut T,
+        machine: &mut Machine<'_>,
+        token: Token,
+        deep: usize,
+    ) -> Result<(Look, Scanned), Stop>
+        requires running { self.old.stop ≡ None }
+        requires sound { Sound self.old }
+        requires token { TokenWithin (length self.old.names) token }
+        ensures does { Does (hears T.wanting T.heard) (hears_part T.wanting T.part)
+            (λ n. look_in (level n) (machine_rest machine.old) [] (token_at self.old.names token)) (ok_at (λ p. p.0) result) self.old self.new (T.faults tell.old) (T.faults tell.new) tell.old tell.new }
+        ensures turned { IfOk result (λ p. Turned machine.old p.0 p.1 machine.new) }
+        ensures lower { OnOk result (Lower 0 (state_of self.old) (state_of self.new)) }
+    {
+        let meaning = match self.means(token) {
+            Ok(meaning) => meaning,
+            Err(_) => return Err(self.no_memory()),
+        };
+        let look = looked_at(&self.names, token, &meaning, Held::Nothing);
+        match machine.turn(look) {
+            Scanned::Asked => {}
+            scanned => return Ok((look, scanned)),
+        }
+        if deep >= DEEPEST_QUANTITY {
+            return Err(self.no_memory());
+        }
+        let internal = self.internal(tell, &meaning, deep + 1)?;
+        let look = looked_at(&self.names, token, &meaning, held_of(&internal));
+        let scanned = machine.turn(look);
+        Ok((look, scanned))
+    }
+
+    // What a token of this meaning begins: an internal quantity, or a list of tokens.
+    #[cycle(expanding)]
+    fn internal<T: Teller>(
+        &mut self,
+        tell: &mut T,
+        meaning: &Meaning,
+        deep: usize,
+    ) -> Result<Internal, Stop>
+        requires running { self.old.stop ≡ None }
+        requires sound { Sound self.old }
+        requires meaning { MeaningWithin (length self.old.names) meaning.now }
+        ensures does { Does (hears T.wanting T.heard) (hears_part T.wanting T.part)
+            (λ n. spec_internal (level n) (meaning_at self.old.names meaning.now)) (ok_at (internal_at self.new.names) result) self.old self.new (T.faults tell.old) (T.faults tell.new) tell.old tell.new }
+        ensures lower { OnOk result (Lower 0 (state_of self.old) (state_of self.new)) }
+        ensures within { IfOk result (InternalWithin (length self.new.names)) }
+    {
+        match meaning {
+            Meaning::Number(code) => Ok(Internal::Number(*code as i32)),
+            Meaning::Quantity(key) => self.value_of(*key),
+            Meaning::Builtin(place) => self.internal_at(tell, *place, deep),
+            _ => Err(self.bare_fault(fault_code::MISSING_NUMBER)),
+        }
+    }
+
+    // What the builtin of a place begins, with the number behind it.
+    #[cycle(expanding)]
+    fn internal_at<T: Teller>(
+        &mut self,
+        tell: &mut T,
+        place: u16,
+        deep: usize,
+    ) -> Result<Internal, Stop>
+        requires running { self.old.stop ≡ None }
+        requires sound { Sound self.old }
+        ensures does { Does (hears T.wanting T.heard) (hears_part T.wanting T.part)
+            (λ n. internal_of (level n) (spec_variable_at place)) (ok_at (internal_at self.new.names) result) self.old self.new (T.faults tell.old) (T.faults tell.new) tell.old tell.new }
+        ensures lower { OnOk result (Lower 0 (state_of self.old) (state_of self.new)) }
+        ensures within { IfOk result (InternalWithin (length self.new.names)) }
+    {
+        let Some(variable) = variable_at(place) else {
+            return Err(self.bare_fault(fault_code::MISSING_NUMBER));
+        };
+        let number = self.index(tell, index_of(variable), deep)?;
+        self.value_of(key_of(variable, number))
+    }
+
+    // The number that comes behind the builtin of a variable.
+    #[cycle(expanding)]
+    pub(super) fn index<T: Teller>(
+        &mut self,
+        tell: &mut T,
+        index: Index,
+        deep: usize,
+    ) -> Result<u32, Stop>
+        requires running { self.old.stop ≡ None }
+        requires sound { Sound self.old }
+        ensures does { Does (hears T.wanting T.heard) (hears_part T.wanting T.part)
+            (λ n. spec_read_index index n) (result) self.old self.new (T.faults tell.old) (T.faults tell.new) tell.old tell.new }
+        ensures lower { OnOk result (Lower 0 (state_of self.old) (state_of self.new)) }
+        ensures fits { IfOk result (HasNumber index) }
+    {
+        match index {
+            Index::Alone => Ok(0),
+            Index::Character => {
+                let number = self.int(tell, deep)?;
+                self.character(number)
+            }
+            Index::Register => {
+                let number = self.int(tell, deep)?;
+                self.register(number)
+            }
+        }
+    }
+
+    // A number.
+    #[cycle(expanding)]
+    pub(super) fn int<T: Teller>(&mut self, tell: &mut T, deep: usize) -> Result<i32, Stop>
+        requires running { self.old.stop ≡ None }
+        requires sound { Sound self.old }
+        ensures does { Does (hears T.wanting T.heard) (hears_part T.wanting T.part)
+            (spec_read_int) (result) self.old self.new (T.faults tell.old) (T.faults tell.new) tell.old tell.new }
+        ensures lower { OnOk result (Lower 0 (state_of self.old) (state_of self.new)) }
+    {
+        match self.scan(tell, Machine::Int(IntScan::new()), deep)? {
+            Value::Int(value) => Ok(value),
+            _ => unreachable!(),
+        }
+    }
+}
+
+// Whether a token has no meaning, though it is one that may have one.
+fn is_undefined(meaning: &Option<Meaning>) -> bool
+    ensures { result ≡ means_nothing meaning.now }
+{
+    match meaning {
+        Some(Meaning::Undefined) => true,
+        _ => false,
+    }
+}
+
+// What a token of this meaning can be expanded by, if it can be.
+fn expandable_by(meaning: Option<Meaning>) -> Option<Expandable>
+    ensures { result ≡ expandable_in meaning }
+{
+    match meaning {
+        Some(Meaning::Macro(found)) => Some(Expandable::Call(found)),
+        Some(Meaning::Builtin(place)) => builtin_at(place),
+        _ => None,
+    }
+}
+
+// What the builtin of a place expands as, if it does.
+fn builtin_at(place: u16) -> Option<Expandable>
+    ensures { result ≡ builtin_in place }
+{
+    match place {
+        NUMBER => Some(Expandable::Number),
+        ROMANNUMERAL => Some(Expandable::RomanNumeral),
+        THE => Some(Expandable::The),
+        _ => None,
+    }
+}
+
+// What a token that is kept from being expanded counts as, by its meaning.
+fn frozen_as(token: Token, meaning: Option<Meaning>) -> Token
+    ensures { result ≡ frozen_in token meaning }
+{
+    if is_undefined(&meaning) {
+        return FIXED;
+    }
+    match expandable_by(meaning) {
+        None => token,
+        Some(_) => FIXED,
+    }
+}
+
+// A token that counts as itself.
+fn as_itself(read: Read) -> Looked
+    ensures { result ≡ record { token = read.token; counts = read.token } }
+{
+    Looked {
+        token: read.token,
+        counts: read.token,
+    }
+}
