@@ -241,7 +241,7 @@ ends_fail r n k s t u whole start e h l d =
     leads_fail r end_one (end_many (n - (k + 1))) s t whole start u e (subst (λ (m : ℕ). Leads r (end_many m) s whole start) q l) d
 
 -- what does the same at the path
-does_as : (r : Rules) (a b : Doing) (s u : Held) (result : Result (Unit {0}) BuildFault) → a (path_of s) ≡ b (path_of s) → Does r a s u result → Does r b s u result
+pub does_as : (r : Rules) (a b : Doing) (s u : Held) (result : Result (Unit {0}) BuildFault) → a (path_of s) ≡ b (path_of s) → Does r a s u result → Does r b s u result
 does_as r a b s u (Ok x) e d = record { out = d.out; gives = sym e ∙ d.gives; stands = d.stands }
 does_as r a b s u (Err (Model f)) e d = sym e ∙ d
 does_as r a b s u (Err NoMemory) e d = tt
