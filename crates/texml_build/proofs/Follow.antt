@@ -14,9 +14,9 @@ use Rattle.texml_build.specs.declared.fault.BuildFault.{BuildFault}
 use Rattle.texml_build.specs.declared.fault.BuildFault.TheVariants.{Model, NoMemory}
 use Rattle.texml_build.specs.Answer.{Builds}
 use Rattle.texml_build.specs.Trim.{texts}
-use Rattle.texml_build.specs.Brackets.{Bracket, starts, ends, word, sets, marks, Doing, behind, next, both, nothing, each, innermost, fault_of, end_one, end_many, start, start_all, say, fit, place, place_by, no_place, enter, close, close_if, close_by, none_to_close, depth_of, space, attr, attr_by, own_attr, holder, holder_or, owner_of, label, refer, refer_by, root_of, step, steps, end_all}
+use Rattle.texml_build.specs.Brackets.{Bracket, starts, ends, word, sets, marks, Doing, behind, next, both, nothing, each, innermost, fault_of, end_one, end_many, start, start_all, say, fit, place, place_by, no_place, enter, close, close_if, close_by, none_to_close, depth_of, space, attr, attr_by, own_attr, holder, holder_or, owner_of, label, refer, refer_by, step, steps, end_all}
 use Rattle.texml_build.specs.Matched.{Beginning, beginning, root_beginning, Level, Levels, empty_level, first, others, joined, whole, child_before, text_before, set_before, mark_before, at_level, before, all_before, tree_of_brackets, built, built_by}
-use Rattle.texml_build.specs.Held.{Part, Held, empty, fresh, elem_of_part, path_of, kids_after, set_after, mark_after, with_has, at_nth, changed, rest_of, begun, ended_in, ended, said, closed, total, Follows, Does, Refuses}
+use Rattle.texml_build.specs.Held.{Part, Held, fresh, elem_of_part, path_of, kids_after, set_after, mark_after, with_has, at_nth, changed, rest_of, begun, ended_in, ended, said, closed, total, Follows, Does, Refuses}
 
 -- texts
 

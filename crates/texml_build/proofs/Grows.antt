@@ -1,15 +1,15 @@
 -- One more operation.
-use Rattle.std.proofs.Common.{◌≡◌, ◌∙◌, ap, sym, refl, ℕ, List, [], ◌∷◌, ◌++◌, Result, Ok, Err, append_assoc, append-nil}
+use Rattle.std.proofs.Common.{◌≡◌, ◌∙◌, ap, sym, refl, subst, ℕ, List, [], ◌∷◌, ◌++◌, length, Result, Ok, Err, append_assoc, append-nil}
 use Rattle.texml_tree.specs.declared.ops.Op.{Op}
-use Rattle.texml_tree.specs.declared.model_fault.ModelFault.{ModelFault}
+use Rattle.texml_tree.specs.Tree.{Tree}
 use Rattle.texml_model.specs.Rules.{Rules}
 use Rattle.texml_build.specs.declared.fault.BuildFault.{BuildFault}
-use Rattle.texml_build.specs.declared.fault.BuildFault.TheVariants.{Model}
-use Rattle.texml_build.specs.Answer.{Builds}
+use Rattle.texml_build.specs.declared.fault.BuildFault.TheVariants.{Model, NoMemory}
 use Rattle.texml_build.specs.Brackets.{Bracket, Outcome, Doing, behind, next, both, nothing, step, steps, end_all}
-use Rattle.texml_build.specs.Matched.{built}
-use Rattle.texml_build.specs.Held.{Held, fresh, Follows, Does}
-use Rattle.texml_build.proofs.Follow.{does_as, does_next, does_fail, built_fault}
+use Rattle.texml_build.specs.Trim.{texts}
+use Rattle.texml_build.specs.Matched.{whole, built}
+use Rattle.texml_build.specs.Held.{Held, fresh, kids_after, Follows, Does}
+use Rattle.texml_build.proofs.Follow.{does_as, does_next, does_fail, follows_both, built_ok}
 
 -- done one after the other, however they are put together
 
@@ -37,19 +37,22 @@ steps_more r (o ∷ ops) op path =
 
 -- an operation is done behind others
 
-pub grown_next : (r : Rules) (ops : List Op) (op : Op) (s t u : Held) (result : Result (Unit {0}) BuildFault)
-    → Follows r (steps r ops) s t → Does r (step r op) t u result → Does r (steps r (ops ++ op ∷ [])) s u result
-grown_next r ops op s t u result f d =
+pub grown : (r : Rules) (ops : List Op) (op : Op) (s t u : Held) (state result : Result (Unit {0}) BuildFault)
+    → Does r (steps r ops) s t state → state ≡ Ok tt → Does r (step r op) t u result → Does r (steps r (ops ++ op ∷ [])) s u result
+grown r ops op s t u (Ok x) result f e d =
     does_as r (both (steps r ops) (step r op)) (steps r (ops ++ op ∷ [])) s u result (steps_more r ops op _) (does_next r (steps r ops) (step r op) s t u result f d)
+grown r ops op s t u (Err b) result f e d = absurd (cc)
 
 -- behind a fault nothing is done
-
-pub grown_fault : (r : Rules) (ops : List Op) (op : Op) (s t : Held) (f : ModelFault)
-    → Does r (steps r ops) s t (Err (Model f)) → Does r (steps r (ops ++ op ∷ [])) s t (Err (Model f))
-grown_fault r ops op s t f d =
-    does_as r (both (steps r ops) (step r op)) (steps r (ops ++ op ∷ [])) s t (Err (Model f)) (steps_more r ops op _) (does_fail r (steps r ops) (step r op) s t t (Model f) d)
+pub stays_refused : (r : Rules) (ops : List Op) (op : Op) (s t : Held) (state : Result (Unit {0}) BuildFault) (b : BuildFault)
+    → Does r (steps r ops) s t state → state ≡ Err b → Does r (steps r (ops ++ op ∷ [])) s t (Err b)
+stays_refused r ops op s t state (Model f) d e =
+    does_as r (both (steps r ops) (step r op)) (steps r (ops ++ op ∷ [])) s t (Err (Model f)) (steps_more r ops op _)
+    (does_fail r (steps r ops) (step r op) s t t (Model f) (subst (λ (x : Result (Unit {0}) BuildFault). Does r (steps r ops) s t x) e d))
+stays_refused r ops op s t state NoMemory d e = tt
 
 -- the whole
 
-pub grown_refused : (r : Rules) (ops : List Op) (s t : Held) (e : BuildFault) → Does r (steps r ops) (fresh r) t (Err e) → Builds (built r ops) (Err e)
-grown_refused r ops s t e d = built_fault r ops (fresh r) t e refl (does_fail r (steps r ops) (end_all r) (fresh r) t t e d)
+pub ends_well : (r : Rules) (ops : List Op) (s t : Held) (tree : Tree) → Follows r (steps r ops) (fresh r) s → Follows r (end_all r) s t → length t.outer ≡ 0
+    → tree ≡ whole r t.inner.start (kids_after (texts t.text) t.inner.has) → built r ops ≡ Ok tree
+ends_well r ops s t tree f d l e = built_ok r ops (fresh r) t tree refl (follows_both r (steps r ops) (end_all r) (fresh r) s t f d) l e

@@ -26,7 +26,7 @@ use texml_tree::{Attr, Elem, Given, Head, Node, Op, Sets, Tag, element, leaf};
 const DEEPEST: usize = 199;
 
 /// What most elements are given.
-const NOTHING: Given<'static> = Given {
+static NOTHING: Given<'static> = Given {
     target: None,
     attrs: &[],
     labels: &[],

@@ -7,7 +7,7 @@ ghost use Rattle.texml_tree.specs.Plain.{tree_of};
 ghost use Rattle.texml_model.specs.Rules.{IsContentModel, rules_of};
 ghost use Rattle.texml_build.specs.Brackets.{steps};
 ghost use Rattle.texml_build.specs.Matched.{built};
-ghost use Rattle.texml_build.specs.Held.{fresh, held_of, Follows};
+ghost use Rattle.texml_build.specs.Held.{fresh, held_of, Follows, Does};
 ghost use Rattle.texml_build.specs.Answer.{Builds};
 ghost use Rattle.texml_build.specs.Growing.{Growing, with_op};
 ghost use Rattle.texml_build.specs.Valid.{Valid};
@@ -17,6 +17,7 @@ use crate::fault::BuildFault;
 use bumpalo::Bump;
 use std::alloc::{AllocError, Global};
 use std::marker::Model;
+use std::mem;
 use texml_model::Content;
 use texml_tree::{Op, Tree};
 
@@ -39,8 +40,8 @@ impl Done {
     }
 
     /// One more.
-    fn and(&self, _op: &Op) -> Done
-        ensures { result.ops ≡ self.now.ops ++ _op.now ∷ [] }
+    fn with(_before: &Done, _op: &Op) -> Done
+        ensures { result.ops ≡ _before.now.ops ++ _op.now ∷ [] }
     {
         Done {}
     }
@@ -90,22 +91,15 @@ impl<'c, 'a> GrowingTree<'c, 'a> {
         ensures ok { OnOk result (self.new ≡ with_op self.old op.now) }
         ensures err { OnErr result (self.new ≡ self.old) }
     {
+        let state = mem::replace(&mut self.state, Ok(()));
+        self.state = advance(self.content, &mut self.builder, state, op);
         match &self.state {
-            Err(BuildFault::NoMemory) => return Err(AllocError),
-            Err(BuildFault::Model(_)) => {}
-            Ok(()) => match self.builder.step(self.content, op) {
-                Ok(()) => {}
-                Err(BuildFault::NoMemory) => {
-                    self.state = Err(BuildFault::NoMemory);
-                    return Err(AllocError);
-                }
-                Err(fault) => {
-                    self.state = Err(fault);
-                }
-            },
+            Err(BuildFault::NoMemory) => Err(AllocError),
+            _ => {
+                self.done = Done::with(&self.done, op);
+                Ok(())
+            }
         }
-        self.done = self.done.and(op);
-        Ok(())
     }
 
     /// The tree of all operations.
@@ -125,14 +119,30 @@ impl<'c, 'a> GrowingTree<'c, 'a> {
             done: _,
         } = self;
         match state {
-            Ok(()) => finish(content, builder),
+            Ok(()) => close_all(content, builder),
             Err(fault) => Err(fault),
         }
     }
 }
 
+/// Does one more operation, unless one before was refused.
+fn advance(
+    content: &Content,
+    builder: &mut Builder<'_>,
+    state: Result<(), BuildFault>,
+    op: &Op,
+) -> Result<(), BuildFault>
+    ensures { (ops : List Op) → Does (rules_of content.now) (steps (rules_of content.now) ops) (fresh (rules_of content.now)) (held_of builder.old) state
+        → Does (rules_of content.now) (steps (rules_of content.now) (ops ++ op.now ∷ [])) (fresh (rules_of content.now)) (held_of builder.new) result }
+{
+    match state {
+        Err(fault) => Err(fault),
+        Ok(()) => builder.step(content, op),
+    }
+}
+
 /// The tree of a builder that has done all operations.
-fn finish<'a>(content: &Content, builder: Builder<'a>) -> Result<Tree<'a>, BuildFault>
+fn close_all<'a>(content: &Content, builder: Builder<'a>) -> Result<Tree<'a>, BuildFault>
     ensures value { (ops : List Op) → Follows (rules_of content.now) (steps (rules_of content.now) ops) (fresh (rules_of content.now)) (held_of builder.entry) → Builds (built (rules_of content.now) ops) result }
     ensures model { OnOk result (IsContentModel content.now) }
 {
