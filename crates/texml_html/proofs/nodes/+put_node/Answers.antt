@@ -4,7 +4,7 @@ use Rattle.texml_tree.proofs.Nodes.{plain_element}
 use Rattle.texml_html.specs.Html.{behind, node, nodes, opening}
 use Rattle.texml_html.specs.Walk.{places_of, rules_in, linked_in}
 use Rattle.texml_html.proofs.Weighing.{child_lighter}
-use Rattle.texml_html.proofs.Going.{plains, passing_all, passing_child, passing_on, passing_end, left_on, left_end, nodes_go, ahead_head, head_known, node_open, node_shut}
+use Rattle.texml_html.proofs.Going.{plains, passing_all, passing_child, passing_on, left_on, left_end, nodes_go, ahead_head, head_known, node_open, node_shut}
 use Rattle.texml_html.proofs.Pieces.{wrote_then, wrote_same}
 use Rattle.texml_html.proofs.nodes.+put_node.Goals as goal
 
