@@ -33,14 +33,14 @@ impl Model for Done {
 
 impl Done {
     /// None so far.
-    fn none() -> Done
+    pub fn none() -> Done
         ensures { result.ops ≡ [] }
     {
         Done {}
     }
 
     /// One more.
-    fn with(_before: &Done, _op: &Op) -> Done
+    pub fn with(_before: &Done, _op: &Op) -> Done
         ensures { result.ops ≡ _before.now.ops ++ _op.now ∷ [] }
     {
         Done {}

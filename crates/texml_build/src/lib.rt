@@ -14,4 +14,4 @@ mod trim;
 
 pub use building::{build, every_tree_is_valid, texts_go_on};
 pub use fault::BuildFault;
-pub use growing::GrowingTree;
+pub use growing::{Done, GrowingTree};
