@@ -14,9 +14,9 @@ use Rattle.texml_build.specs.declared.fault.BuildFault.{BuildFault}
 use Rattle.texml_build.specs.declared.fault.BuildFault.TheVariants.{Model, NoMemory}
 use Rattle.texml_build.specs.Answer.{Builds}
 use Rattle.texml_build.specs.Trim.{texts}
-use Rattle.texml_build.specs.Brackets.{Bracket, starts, ends, word, sets, marks, Doing, behind, next, both, nothing, each, innermost, fault_of, end_one, end_many, start, start_all, say, fit, place, place_by, no_place, enter, close, close_if, close_by, none_to_close, depth_of, space, attr, attr_by, own_attr, holder, holder_or, owner_of, label, refer, refer_by, root_of, step, steps, end_all}
+use Rattle.texml_build.specs.Brackets.{Bracket, starts, ends, word, sets, marks, Doing, behind, next, both, nothing, each, innermost, fault_of, end_one, end_many, start, start_all, say, fit, place, place_by, no_place, enter, close, close_if, close_by, none_to_close, depth_of, space, attr, attr_by, own_attr, holder, holder_or, owner_of, label, refer, refer_by, step, steps, end_all}
 use Rattle.texml_build.specs.Matched.{Beginning, beginning, root_beginning, Level, Levels, empty_level, first, others, joined, whole, child_before, text_before, set_before, mark_before, at_level, before, all_before, tree_of_brackets, built, built_by}
-use Rattle.texml_build.specs.Held.{Part, Held, empty, fresh, elem_of_part, path_of, kids_after, set_after, mark_after, with_has, at_nth, changed, rest_of, begun, ended_in, ended, said, closed, total, Follows, Does, Refuses}
+use Rattle.texml_build.specs.Held.{Part, Held, fresh, elem_of_part, path_of, kids_after, set_after, mark_after, with_has, at_nth, changed, rest_of, begun, ended_in, ended, said, closed, total, Follows, Does, Refuses}
 
 -- texts
 
@@ -241,7 +241,7 @@ ends_fail r n k s t u whole start e h l d =
     leads_fail r end_one (end_many (n - (k + 1))) s t whole start u e (subst (λ (m : ℕ). Leads r (end_many m) s whole start) q l) d
 
 -- what does the same at the path
-does_as : (r : Rules) (a b : Doing) (s u : Held) (result : Result (Unit {0}) BuildFault) → a (path_of s) ≡ b (path_of s) → Does r a s u result → Does r b s u result
+pub does_as : (r : Rules) (a b : Doing) (s u : Held) (result : Result (Unit {0}) BuildFault) → a (path_of s) ≡ b (path_of s) → Does r a s u result → Does r b s u result
 does_as r a b s u (Ok x) e d = record { out = d.out; gives = sym e ∙ d.gives; stands = d.stands }
 does_as r a b s u (Err (Model f)) e d = sym e ∙ d
 does_as r a b s u (Err NoMemory) e d = tt

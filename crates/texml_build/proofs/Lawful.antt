@@ -15,7 +15,7 @@ use Rattle.texml_model.specs.Rules.{Rules, VoidIsEmpty, IsContentModel, holding_
 use Rattle.texml_model.proofs.Models.{rules_sound, void_is_empty, root_named}
 use Rattle.texml_build.specs.declared.fault.BuildFault.{BuildFault}
 use Rattle.texml_build.specs.Answer.{Builds}
-use Rattle.texml_build.specs.Brackets.{Bracket, starts, ends, Outcome, Doing, behind, next, both, nothing, each, innermost, fault_of, end_one, end_many, start, start_all, say, fit_or, fit, place, place_by, enter, close_by, none_to_close, one_more, depth_under, depth_of, attr_by, own_attr, holder, holder_or, label, refer, refer_by, step, steps, end_under, end_all, root_of, brackets}
+use Rattle.texml_build.specs.Brackets.{Bracket, starts, ends, Outcome, Doing, behind, next, both, nothing, each, innermost, fault_of, end_one, end_many, start, start_all, say, fit_or, fit, place, place_by, enter, close_by, none_to_close, one_more, depth_under, depth_of, attr_by, own_attr, holder, holder_or, refer_by, step, steps, end_under, end_all, root_of, brackets}
 use Rattle.texml_build.specs.Matched.{beginning, Levels, first, others, at_level, set_before, mark_before, whole, before, all_before, built, built_by}
 use Rattle.texml_build.specs.Valid.{AllMay, ValidTree, ValidKids, Valid, IsValid, IsModel}
 use Rattle.texml_build.proofs.Kids.{trimmed_valid, joined_valid, void_none}

@@ -1,6 +1,7 @@
 pub mod Trims
 pub mod Strips
 pub mod Follow
+pub mod Grows
 pub mod Paths
 pub mod Kids
 pub mod Lawful

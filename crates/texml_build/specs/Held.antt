@@ -1,5 +1,5 @@
 -- What only the builder's private functions are about: what it holds, and how that follows what is done.
-use Rattle.std.specs.Prelude.{◌≡◌, ℕ, zero, suc, List, [], ◌∷◌, ◌++◌, map, reverse, Option, Result, Ok, Err}
+use Rattle.std.specs.Prelude.{◌≡◌, ℕ, zero, suc, List, [], ◌∷◌, ◌++◌, map, reverse, Result, Ok, Err}
 use Rattle.std.specs.Option.{option_map}
 use Rattle.texml_tree.specs.declared.model_fault.ModelFault.{ModelFault}
 use Rattle.texml_tree.specs.Tree.{Set, Mark, Tree}

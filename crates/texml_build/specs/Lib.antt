@@ -5,4 +5,5 @@ pub mod Valid
 pub mod Answer
 pub mod Small
 pub mod Held
+pub mod Growing
 pub mod Texts

@@ -3,7 +3,7 @@
 use Rattle.std.specs.Prelude.{ℕ, zero, suc, Bool, true, List, [], ◌∷◌, ◌++◌, Option, None, Result, Ok, Err}
 use Rattle.texml_tree.specs.declared.ops.Op.{Op}
 use Rattle.texml_tree.specs.declared.model_fault.ModelFault.{ModelFault}
-use Rattle.texml_tree.specs.Tree.{Set, Mark, Head, Tree, text, element, trees}
+use Rattle.texml_tree.specs.Tree.{Set, Mark, Tree, text, element, trees}
 use Rattle.texml_model.specs.Rules.{Rules}
 use Rattle.texml_build.specs.Trim.{trimmed, texts}
 use Rattle.texml_build.specs.Brackets.{Bracket, starts, ends, word, sets, marks, Outcome, root_of, brackets}

@@ -1,5 +1,5 @@
 -- A small table, on which proofs/Rows.antt computes the definitions and which the tests make.
-use Rattle.std.specs.Prelude.{ℕ, Bool, List, [], ◌∷◌, true, false, None, codes}
+use Rattle.std.specs.Prelude.{ℕ, List, [], ◌∷◌, true, false, None, codes}
 use Rattle.texml_tree.specs.declared.table.ElementLine.{ElementLine}
 use Rattle.texml_tree.specs.declared.table.Elements.{Elements}
 use Rattle.texml_tree.specs.declared.table.Flags.{Flags}

@@ -6,7 +6,7 @@ ghost use Rattle.texml_tree.specs.Plain.{plain};
 ghost use Rattle.texml_model.specs.Levels.{places_of};
 ghost use Rattle.texml_model.specs.Rules.{IsContentModel, rules_of};
 ghost use Rattle.texml_build.specs.Trim.{texts};
-ghost use Rattle.texml_build.specs.Brackets.{fault_of, innermost, no_place, both, start as spec_start, start_all as spec_start_all, end_one as spec_end_one, end_many as spec_end_many, say as spec_say, fit as spec_fit, place as spec_place, enter as spec_enter, each, root_of, depth_of, close as spec_close, close_if as spec_close_if, space as spec_space, holder as spec_holder, holder_or, attr_by, attr as spec_attr, own_attr as spec_own_attr, owner_of, label as spec_label, refer as spec_refer, step as spec_step, steps, end_all};
+ghost use Rattle.texml_build.specs.Brackets.{fault_of, innermost, no_place, both, start as spec_start, start_all as spec_start_all, end_one as spec_end_one, end_many as spec_end_many, say as spec_say, fit as spec_fit, place as spec_place, enter as spec_enter, each, root_of, depth_of, close as spec_close, close_if as spec_close_if, space as spec_space, holder as spec_holder, holder_or, attr_by, attr as spec_attr, own_attr as spec_own_attr, owner_of, label as spec_label, refer as spec_refer, step as spec_step, end_all};
 ghost use Rattle.texml_build.specs.Matched.{beginning, whole};
 ghost use Rattle.texml_build.specs.Held.{held_of, empty, fresh, set_after, mark_after, Refuses, part_of, level_of, beginning_of, path_of, flushed, begun, ended, said, changed, extra_after, with_has, kids_after, Does};
 
@@ -20,10 +20,17 @@ use texml_token::Bytes;
 use texml_tree::model_fault::{
     BAD_ATTRIBUTE, NO_PLACE, NO_TEXT, NOTHING_TO_CLOSE, TREE_DEPTH, UNCLOSED,
 };
-use texml_tree::{Attr, Elem, Head, Node, Op, Sets, Tag, element, leaf};
+use texml_tree::{Attr, Elem, Given, Head, Node, Op, Sets, Tag, element, leaf};
 
 /// So many elements may stand around another one.
 const DEEPEST: usize = 199;
+
+/// What most elements are given.
+static NOTHING: Given<'static> = Given {
+    target: None,
+    attrs: &[],
+    labels: &[],
+};
 
 /// An open element, with what it has so far.
 #[derive(Drop)]
@@ -133,16 +140,36 @@ fn close<'a>(arena: &'a Bump, content: &Content, last: Open<'a>) -> Result<Node<
         trim_first(&mut kids);
         trim_last(&mut kids)?;
     }
-    let attrs: &'a [Attr<'a>] = arena.try_alloc_slice_copy(attrs.as_slice())?;
-    let labels: &'a [Tag<'a>] = arena.try_alloc_slice_copy(labels.as_slice())?;
+    let given = keep_given(arena, target, attrs.as_slice(), labels.as_slice())?;
     let head = Head {
         elem,
         identified,
-        target,
-        attrs,
-        labels,
+        given,
     };
     element(arena, head, kids.as_slice())
+}
+
+/// What was given to an element, copied into the arena. Where it is nothing, nothing is copied.
+fn keep_given<'a>(
+    arena: &'a Bump,
+    target: Option<&'a [u8]>,
+    attrs: &[Attr<'a>],
+    labels: &[Tag<'a>],
+) -> Result<&'a Given<'a>, AllocError>
+    ensures target { IfOk result (λ given. option_map (λ t. t.now) given.now.target ≡ option_map (λ t. t.now) target.entry) }
+    ensures attrs { IfOk result (λ given. given.now.attrs.now ≡ attrs.now) }
+    ensures labels { IfOk result (λ given. given.now.labels.now ≡ labels.now) }
+{
+    if target.is_none() && attrs.is_empty() && labels.is_empty() {
+        return Ok(&NOTHING);
+    }
+    let given = Given {
+        target,
+        attrs: arena.try_alloc_slice_copy(attrs)?,
+        labels: arena.try_alloc_slice_copy(labels)?,
+    };
+    let kept: &'a Given<'a> = arena.try_alloc(given)?;
+    Ok(kept)
 }
 
 impl<'a> Builder<'a> {
@@ -614,7 +641,7 @@ impl<'a> Builder<'a> {
     }
 
     /// Does one operation.
-    fn step(&mut self, content: &Content, op: &Op) -> Result<(), BuildFault>
+    pub(crate) fn step(&mut self, content: &Content, op: &Op) -> Result<(), BuildFault>
         ensures { Does (rules_of content.now) (spec_step (rules_of content.now) op.now) (held_of self.old) (held_of self.new) result }
     {
         match op {
@@ -629,22 +656,9 @@ impl<'a> Builder<'a> {
         }
     }
 
-    /// Does operations, one after the other.
-    fn run(&mut self, content: &Content, ops: &[Op]) -> Result<(), BuildFault>
-        ensures { Does (rules_of content.now) (steps (rules_of content.now) ops.now) (held_of self.old) (held_of self.new) result }
-    {
-        for op in ops {
-            match self.step(content, op) {
-                Ok(()) => {}
-                Err(fault) => return Err(fault),
-            }
-        }
-        Ok(())
-    }
-
     /// Ends all but the root.
     #[tactic(auto, using(crate::proofs::Follow::end_fails, crate::proofs::Follow::end_done))]
-    fn finish(&mut self, content: &Content) -> Result<(), BuildFault>
+    pub(crate) fn finish(&mut self, content: &Content) -> Result<(), BuildFault>
         ensures does { Does (rules_of content.now) (end_all (rules_of content.now)) (held_of self.old) (held_of self.new) result }
         ensures root { OnOk result (length self.new.outer.items ≡ 0) }
     {
@@ -656,16 +670,6 @@ impl<'a> Builder<'a> {
             self.end_one(content)?;
         }
         Ok(())
-    }
-
-    /// Does all operations, and ends all but the root.
-    #[tactic(auto, using(crate::proofs::Follow::does_next, crate::proofs::Follow::does_fail))]
-    pub(crate) fn perform(&mut self, content: &Content, ops: &[Op]) -> Result<(), BuildFault>
-        ensures does { Does (rules_of content.now) (both (steps (rules_of content.now) ops.now) (end_all (rules_of content.now))) (held_of self.old) (held_of self.new) result }
-        ensures root { OnOk result (length self.new.outer.items ≡ 0) }
-    {
-        self.run(content, ops)?;
-        self.finish(content)
     }
 
     /// The root, when all others have ended.

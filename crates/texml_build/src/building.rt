@@ -1,15 +1,15 @@
 //! The tree of a list of operations.
 
-ghost use Rattle.std.specs.Prelude.{IfOk, OnOk};
+ghost use Rattle.std.specs.Prelude.{IfOk};
 ghost use Rattle.texml_tree.specs.Plain.{tree_of};
-ghost use Rattle.texml_model.specs.Rules.{IsContentModel, rules_of};
+ghost use Rattle.texml_model.specs.Rules.{rules_of};
 ghost use Rattle.texml_build.specs.Matched.{built};
 ghost use Rattle.texml_build.specs.Answer.{Builds};
 ghost use Rattle.texml_build.specs.Valid.{Valid, EveryTreeIsValid};
 ghost use Rattle.texml_build.specs.Texts.{TextsGoOn};
 
-use crate::builder::Builder;
 use crate::fault::BuildFault;
+use crate::growing::GrowingTree;
 use bumpalo::Bump;
 use std::alloc::Global;
 use texml_model::Content;
@@ -30,28 +30,14 @@ pub fn build<'a>(
     ensures value { Builds (built (rules_of content.now) ops.now) result }
     ensures valid { IfOk result (λ tree. Valid (rules_of content.now) (tree_of tree)) }
 {
-    grow(alloc, arena, ops, content)
-}
-
-/// The tree, by a builder.
-#[tactic(auto, using(crate::proofs::Follow::built_fault))]
-fn grow<'a>(
-    alloc: Global,
-    arena: &'a Bump,
-    ops: &Ops,
-    content: &Content,
-) -> Result<Tree<'a>, BuildFault>
-    ensures value { Builds (built (rules_of content.now) ops.now) result }
-    ensures model { OnOk result (IsContentModel content.now) }
-{
-    let mut builder = Builder::new(alloc, arena, content);
-    match builder.perform(content, ops.as_slice()) {
-        Err(fault) => Err(fault),
-        Ok(()) => match builder.root(content) {
-            Ok(root) => Ok(Tree::new(root)),
-            Err(_) => Err(BuildFault::NoMemory),
-        },
+    let mut tree = GrowingTree::new(alloc, arena, content);
+    for op in ops.as_slice() {
+        match tree.add(op) {
+            Ok(()) => {}
+            Err(_) => return Err(BuildFault::NoMemory),
+        }
     }
+    tree.finish()
 }
 
 /// The law on the definitions: the tree of every list of operations is valid.

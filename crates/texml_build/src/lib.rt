@@ -9,7 +9,9 @@
 mod builder;
 mod building;
 mod fault;
+mod growing;
 mod trim;
 
 pub use building::{build, every_tree_is_valid, texts_go_on};
 pub use fault::BuildFault;
+pub use growing::{Done, GrowingTree};

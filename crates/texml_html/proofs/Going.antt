@@ -8,7 +8,7 @@ use Rattle.texml_tree.specs.declared.tree.Node.{Node}
 use Rattle.texml_tree.specs.Tree.{Head, Tree, Trees, element, trees, none, more}
 use Rattle.texml_tree.specs.Plain.{plain}
 use Rattle.texml_model.specs.Rules.{Rules}
-use Rattle.texml_xref.specs.Refs.{LinkedTree, heads, heads_in, identified, is_placed, placed, ids_in, links_in}
+use Rattle.texml_xref.specs.Refs.{LinkedTree, heads, heads_in, identified, is_placed, placed}
 use Rattle.texml_html.specs.Html.{Places, behind, entries, entries_in, has_inside, opening, end_tag, node, nodes}
 use Rattle.texml_html.specs.Walk.{Ahead}
 use Rattle.texml_html.specs.Writing.{Lent, Wrote}

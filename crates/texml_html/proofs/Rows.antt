@@ -1,8 +1,8 @@
 -- The definitions computed on small trees.
-use Rattle.std.proofs.Common.{◌≡◌, ℕ, true, false, List, [], ◌∷◌, Option, None, Some, refl}
+use Rattle.std.proofs.Common.{◌≡◌, ℕ, true, false, List, [], ◌∷◌, None, Some, refl}
 use Rattle.std.specs.Prelude.{codes}
 use Rattle.std.specs.Fmt.{digits}
-use Rattle.texml_tree.specs.Tree.{Head, Mark, Set, Tree, text, element, trees}
+use Rattle.texml_tree.specs.Tree.{Head, Mark, Tree, text, element, trees}
 use Rattle.texml_model.specs.Rules.{rules_of}
 use Rattle.texml_xref.specs.Refs.{LinkedTree}
 use Rattle.texml_html.specs.Small.{small}

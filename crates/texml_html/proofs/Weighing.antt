@@ -1,5 +1,5 @@
 -- How large a tree is: the measure of a walk through it.
-use Rattle.std.proofs.Common.{arith, ◌≡◌, ap, sym, subst, ℕ, zero, suc, ◌+◌, ◌<◌, ◌≤◌, List, [], ◌∷◌, length, drop, get_or}
+use Rattle.std.proofs.Common.{arith, ◌≡◌, ap, ℕ, zero, suc, ◌+◌, ◌<◌, ◌≤◌, List, [], ◌∷◌, length, get_or}
 use Rattle.texml_tree.specs.declared.tree.Node.{Node}
 use Rattle.texml_tree.specs.Tree.{Head, Tree, Trees, text, element, none, more}
 use Rattle.texml_tree.specs.Plain.{plain}

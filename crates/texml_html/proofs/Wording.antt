@@ -6,7 +6,7 @@ use Rattle.std.specs.List.{flat_map}
 use Rattle.std.proofs.lemmas.List.{take_more, take_all, drop_all, drop-take, drop-append-le, length-take-le}
 use Rattle.std.proofs.lemmas.Grind.{flat_map-append}
 use Rattle.texml_tree.specs.declared.tree.Node.{Node}
-use Rattle.texml_tree.specs.Tree.{Head, Tree, Trees, element, more}
+use Rattle.texml_tree.specs.Tree.{Head, Tree, Trees, element}
 use Rattle.texml_tree.specs.Plain.{plain}
 use Rattle.texml_model.specs.Rules.{Rules}
 use Rattle.texml_xref.specs.Refs.{Link, id_of}

@@ -1,5 +1,5 @@
 -- A small table, which the tests make: the root, a title, paragraphs, sections that the contents name, contents and references.
-use Rattle.std.specs.Prelude.{ℕ, Bool, true, false, List, [], ◌∷◌, Option, Some, None, codes}
+use Rattle.std.specs.Prelude.{ℕ, true, false, List, [], ◌∷◌, Option, Some, None, codes}
 use Rattle.texml_tree.specs.declared.table.ElementLine.{ElementLine}
 use Rattle.texml_tree.specs.declared.table.Elements.{Elements}
 use Rattle.texml_tree.specs.declared.table.Flags.{Flags}

@@ -1,5 +1,5 @@
 -- What the code holds while it goes through a tree. The page itself is specs/Html.antt.
-use Rattle.std.specs.Prelude.{◌≡◌, ◌+◌, ◌≤◌, List, length}
+use Rattle.std.specs.Prelude.{◌+◌, ◌≤◌, List, length}
 use Rattle.texml_tree.specs.Tree.{Head}
 use Rattle.texml_model.specs.Rules.{Rules, rules_of}
 use Rattle.texml_xref.specs.Refs.{LinkedTree, identified, placed, ids_in, links_in}

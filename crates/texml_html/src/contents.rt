@@ -40,8 +40,8 @@ fn put_entries<S: Sink>(
     match node {
         Node::Text(_) => {}
         Node::Element(head, children) => {
-            put_entry(page, *places, head, *children, out);
-            pass_head(page, places, head);
+            put_entry(page, *places, *head, *children, out);
+            pass_head(page, places, *head);
             for child in *children {
                 put_entries(page, places, child, out);
             }

@@ -31,13 +31,13 @@ pub(crate) fn put_node<S: Sink>(
     match node {
         Node::Text(text) => put_escaped(out, Inside::Text, *text),
         Node::Element(head, children) => {
-            put_opening(page, *places, head, out);
-            pass_head(page, places, head);
-            if has_inside(page, head) {
+            put_opening(page, *places, *head, out);
+            pass_head(page, places, *head);
+            if has_inside(page, *head) {
                 for child in *children {
                     put_node(page, places, child, out);
                 }
-                put_end_tag(page, head, out);
+                put_end_tag(page, *head, out);
             } else {
                 for child in *children {
                     pass(page, places, child);

@@ -38,7 +38,7 @@ pub(crate) fn pass(page: &Page<'_, '_>, places: &mut Places, node: &Node<'_>)
     match node {
         Node::Text(_) => {}
         Node::Element(head, children) => {
-            pass_head(page, places, head);
+            pass_head(page, places, *head);
             for child in *children {
                 pass(page, places, child);
             }

@@ -53,7 +53,7 @@ fn first_placed<'a>(place: Option<Elem>, node: &Node<'a>) -> Option<Node<'a>>
     match node {
         Node::Text(_) => None,
         Node::Element(head, children) => {
-            if is_placed(place, head) {
+            if is_placed(place, *head) {
                 return Some(*node);
             }
             for child in *children {

@@ -24,7 +24,7 @@ const BODY: &[u8] = b"</title></head><body>";
 
 const END: &[u8] = b"</body></html>\n";
 
-/// Appends the page of a linked tree to the sink, piece by piece. It takes no memory.
+/// Appends the page of a linked tree to the sink, in blocks of some kilobytes. It takes no memory.
 ///
 /// The element that the table names `ref` is written as a link with the number of its label, or as `??` where it leads
 /// nowhere, and `toc` as a list of the elements that are flagged for it. The title is all texts in the first element
@@ -49,6 +49,7 @@ pub fn write<S: Sink>(linked: &Linked<'_>, content: &Content, out: &mut S) -> Re
     };
     let mut writer = Writer::new(out);
     put_page(&page, &mut writer);
+    writer.flush();
     if writer.failed { Err(SinkFail) } else { Ok(()) }
 }
 

@@ -40,7 +40,7 @@ fn show(content: &Content, node: &Node<'_>, into: &mut Bytes) -> Result<(), Allo
             if head.identified {
                 into.extend(b"!")?;
             }
-            for tag in head.labels {
+            for tag in head.given.labels {
                 into.extend(b"#")?;
                 into.extend(tag.label)?;
                 into.extend(tag.number)?;
@@ -51,7 +51,7 @@ fn show(content: &Content, node: &Node<'_>, into: &mut Bytes) -> Result<(), Allo
                     into.extend(value)?;
                 }
             }
-            if let Some(target) = head.target {
+            if let Some(target) = head.given.target {
                 into.extend(b">")?;
                 into.extend(target)?;
             }

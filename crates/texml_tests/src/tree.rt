@@ -5,16 +5,18 @@ use std::alloc::Global;
 use std::test::Fail;
 use texml_token::{ByteList, Bytes};
 use texml_tree::{
-    Attr, Elem, ElementLine, ElementLines, Elements, Flags, Head, ModelFault, Node, Op, Ops, Sets,
-    Tag, Tree, element, leaf, model_fault,
+    Attr, Elem, ElementLine, ElementLines, Elements, Flags, Given, Head, ModelFault, Node, Op, Ops,
+    Sets, Tag, Tree, element, leaf, model_fault,
 };
 
 const PLAIN: Head<'static> = Head {
     elem: Elem(3),
     identified: false,
-    target: None,
-    attrs: &[],
-    labels: &[],
+    given: &Given {
+        target: None,
+        attrs: &[],
+        labels: &[],
+    },
 };
 
 /// The texts of a tree, one behind the other.
@@ -49,9 +51,7 @@ fn a_tree_is_walked(rt: HostRuntime) -> Result<(), Fail> {
 
 #[test]
 fn an_element_has_what_was_given_to_it(rt: HostRuntime) -> Result<(), Fail> {
-    let head = Head {
-        elem: Elem(7),
-        identified: true,
+    let given = Given {
         target: Some(b"sec:a"),
         attrs: &[
             Attr {
@@ -78,7 +78,12 @@ fn an_element_has_what_was_given_to_it(rt: HostRuntime) -> Result<(), Fail> {
             },
         ],
     };
-    let node = Node::Element(head, &[]);
+    let head = Head {
+        elem: Elem(7),
+        identified: true,
+        given: &given,
+    };
+    let node = Node::Element(&head, &[]);
     assert_eq!(rt; node.elem(), Some(Elem(7)));
     assert!(rt; node.identified());
     assert_eq!(rt; node.target(), Some(b"sec:a".as_slice()));

@@ -2,61 +2,73 @@ use crate::small::small_model;
 use bumpalo::Bump;
 use std::alloc::AllocError;
 use std::test::Fail;
-use texml_tree::{Elem, Head, Tag, Tree, element};
+use texml_tree::{Elem, Given, Head, Tag, Tree, element};
 use texml_xref::resolve;
 
 const REF: Elem = Elem(9);
 
-const ROOT: Head<'static> = Head {
-    elem: Elem(0),
-    identified: true,
+const NOTHING: Given<'static> = Given {
     target: None,
     attrs: &[],
     labels: &[],
+};
+
+const ROOT: Head<'static> = Head {
+    elem: Elem(0),
+    identified: true,
+    given: &NOTHING,
 };
 
 const FIRST: Head<'static> = Head {
     elem: Elem(0),
     identified: true,
-    target: None,
-    attrs: &[],
-    labels: &[Tag {
-        label: b"a",
-        number: b"1",
-    }],
+    given: &Given {
+        target: None,
+        attrs: &[],
+        labels: &[Tag {
+            label: b"a",
+            number: b"1",
+        }],
+    },
 };
 
 const SECOND: Head<'static> = Head {
     elem: Elem(0),
     identified: true,
-    target: None,
-    attrs: &[],
-    labels: &[
-        Tag {
-            label: b"a",
-            number: b"2",
-        },
-        Tag {
-            label: b"a",
-            number: b"3",
-        },
-    ],
+    given: &Given {
+        target: None,
+        attrs: &[],
+        labels: &[
+            Tag {
+                label: b"a",
+                number: b"2",
+            },
+            Tag {
+                label: b"a",
+                number: b"3",
+            },
+        ],
+    },
 };
 
 const TO_A: Head<'static> = Head {
     elem: REF,
     identified: false,
-    target: Some(b"a"),
-    attrs: &[],
-    labels: &[],
+    given: &Given {
+        target: Some(b"a"),
+        attrs: &[],
+        labels: &[],
+    },
 };
 
 const TO_Z: Head<'static> = Head {
     elem: REF,
     identified: false,
-    target: Some(b"z"),
-    attrs: &[],
-    labels: &[],
+    given: &Given {
+        target: Some(b"z"),
+        attrs: &[],
+        labels: &[],
+    },
 };
 
 /// A reference to `a`, two elements that have the label, the second twice, and references to `a` and `z`.

@@ -1,5 +1,5 @@
 -- A run has one outcome.
-use Rattle.std.proofs.Common.{◌≡◌, ℕ, arith, List, [], Result, Ok, Err, refl, sym, ap, ◌∙◌, subst}
+use Rattle.std.proofs.Common.{◌≡◌, ℕ, List, [], Result, Ok, Err, refl, sym, ap, ◌∙◌, subst}
 use Rattle.std.specs.declared.option.Option.{Option}
 use Rattle.texml_watch.specs.Trace.{trace}
 use Rattle.texml_expand.specs.State.{State, Answer, Done, Ended, Unfinished, IsDecided, added}

@@ -63,19 +63,18 @@ pub document_some : (ops : List Op) (bytes : List ℕ) → document ops ≡ Ok b
 document_some ops bytes e = let page = document_page ops bytes e in λ none. page_some page.tree (sym page.is ∙ none)
 
 -- the page of a tree that was built and linked
-pub document_is : (table : Elements) (ops : List Op) (tree : Tree) (l : LinkedTree) → table ≡ elements → built (rules_of table) ops ≡ Ok tree → l ≡ linked (rules_of table) tree → document ops ≡ Ok (html (rules_of table) l)
+pub document_is : (table : Elements) (ops : List Op) (tree : Tree) (l : LinkedTree) → table ≡ elements → built rules ops ≡ Ok tree → l ≡ linked (rules_of table) tree → document ops ≡ Ok (html (rules_of table) l)
 unfolding document page_of
 document_is table ops tree l e b h =
-    let P : Elements → Type 0 = λ t. built (rules_of t) ops ≡ Ok tree → l ≡ linked (rules_of t) tree → document ops ≡ Ok (html (rules_of t) l) in
-    subst P (sym e) (λ b h. ap page_by b ∙ ap (λ x. Ok (html rules x)) (sym h)) b h
+    let P : Elements → Type 0 = λ t. l ≡ linked (rules_of t) tree → document ops ≡ Ok (html (rules_of t) l) in
+    subst P (sym e) (λ h. ap page_by b ∙ ap (λ x. Ok (html rules x)) (sym h)) h
 
 -- or of one that couldn't be built
-pub document_fails : (table : Elements) (ops : List Op) (f : BuildFault) (ink : Ink) → table ≡ elements → Builds (built (rules_of table) ops) (Err f) → EndsPage (unbuilt f) (document ops) ink ink
+pub document_fails : (ops : List Op) (f : BuildFault) (ink : Ink) → Builds (built rules ops) (Err f) → EndsPage (unbuilt f) (document ops) ink ink
 unfolding document
-document_fails table ops (Model f) ink e b =
-    let P : Elements → Type 0 = λ t. built (rules_of t) ops ≡ Err f → (document ops ≡ Err f) × (ink ≡ ink) in
-    subst P (sym e) (λ b. (ap page_by b, refl)) b
-document_fails table ops NoMemory ink e b = refl
+document_fails ops (Model f) ink b = (ap page_by b, refl)
+document_fails ops NoMemory ink b = refl
 
-pub linked_known : (table : Elements) (tree : Tree) (l : LinkedTree) → Valid (rules_of table) tree → l ≡ linked (rules_of table) tree → AllKnown (rules_of table) (heads l.tree)
-linked_known table tree l valid h = subst (λ (t : Tree). AllKnown (rules_of table) (heads t)) (sym (ap (λ x. x.tree) h)) (valid_is_known table tree valid)
+pub linked_known : (table : Elements) (tree : Tree) (l : LinkedTree) → table ≡ elements → Valid rules tree → l ≡ linked (rules_of table) tree → AllKnown (rules_of table) (heads l.tree)
+linked_known table tree l e valid h =
+    subst (λ (t : Tree). AllKnown (rules_of table) (heads t)) (sym (ap (λ x. x.tree) h)) (valid_is_known table tree (subst (λ (t : Elements). Valid (rules_of t) tree) (sym e) valid))

@@ -1,5 +1,5 @@
 //! Digests what an engine fetches: the operations that it gives.
-ghost use Rattle.std.specs.Prelude.{◌≡◌, length, None, OnOk};
+ghost use Rattle.std.specs.Prelude.{◌≡◌, [], length, None, OnOk};
 ghost use Rattle.std.specs.Char.{IsScalar};
 ghost use Rattle.texml_token.specs.Numbers.{token_at, TokenWithin};
 ghost use Rattle.texml_scope.specs.Numbers.{meaning_at, MeaningWithin};
@@ -14,6 +14,7 @@ ghost use Rattle.texml_assign.specs.declared.executing.Executed.TheVariants.{Not
 ghost use Rattle.texml_top.specs.Gather.{nothing_yet, all_of, ops_of};
 ghost use Rattle.texml_top.specs.Digest.{digestion, digest_turn as spec_digest_turn, digest_token as spec_digest_token, digest_left as spec_digest_left, digest_meaning as spec_digest_meaning, word_at as spec_word_at, digest_word as spec_digest_word, digest_char as spec_digest_char, code as spec_code, char_number as spec_char_number, newline as spec_newline};
 
+use crate::document::Document;
 use crate::gather::{Gathered, Piece};
 use crate::verb::verb;
 use std::alloc::Global;
@@ -23,7 +24,6 @@ use texml_expand::{Engine, Index, Stop};
 use texml_scope::builtins::{CHAR, NEWLINE, PAR, SPACE, VERB};
 use texml_scope::{GroupKind, Meaning};
 use texml_token::{Token, category, fault_code};
-use texml_tree::Ops;
 use texml_watch::Teller;
 
 const STAR: u32 = 42;
@@ -40,24 +40,26 @@ pub enum Word {
     Misplaced,
 }
 
-/// The operations of all that an engine gives, up to the end of what is to be read.
+/// The operations of all that an engine gives, up to the end of what is to be read, taken by a document that has none.
 ///
 /// # Errors
 ///
 /// The stop of the engine: a fault of the text, the limit, or a failure.
-pub fn digest<F: Files, T: Teller>(
+pub fn digest<'c, 'a, F: Files, T: Teller>(
     alloc: Global,
     engine: &mut Engine,
     files: &mut F,
     tell: &mut T,
-) -> Result<Ops, Stop>
+    ops: Document<'c, 'a>,
+) -> Result<Document<'c, 'a>, Stop>
     requires running { engine.old.stop ≡ None }
     requires sound { Sound engine.old }
+    requires fresh { ops ≡ [] }
     ensures does { Does (hears T.wanting T.heard) (hears_part T.wanting T.part) (loops digestion nothing_yet) result engine.old engine.new
         (outside (F.faults files.old) (T.faults tell.old)) (outside (F.faults files.new) (T.faults tell.new)) tell.old tell.new }
     ensures files { files.new ≡ files.old }
 {
-    let mut seen = Gathered::new(alloc);
+    let mut seen = Gathered::new(alloc, ops);
     'rounds: loop {
         let begun = engine.begun();
         'tokens: loop {
@@ -74,10 +76,14 @@ pub fn digest<F: Files, T: Teller>(
 }
 
 // All that was gathered.
-fn end_of(alloc: Global, engine: &mut Engine, seen: Gathered) -> Result<Ops, Stop>
+fn end_of<'c, 'a>(
+    alloc: Global,
+    engine: &mut Engine,
+    seen: Gathered<'c, 'a>,
+) -> Result<Document<'c, 'a>, Stop>
     requires running { engine.old.stop ≡ None }
     requires sound { Sound engine.old }
-    ensures gives { Silent (give (all_of seen) (state_of engine.old)) result (state_of engine.new) }
+    ensures gives { Silent (give (all_of seen.entry) (state_of engine.old)) result (state_of engine.new) }
     ensures kept { engine.new.stop ≡ stop_after result }
     ensures keeps { OnOk result (Kept engine.old engine.new) }
     ensures advances { Advances engine.old engine.new }
@@ -94,7 +100,7 @@ fn digest_turn<F: Files, T: Teller>(
     engine: &mut Engine,
     files: &mut F,
     tell: &mut T,
-    seen: &mut Gathered,
+    seen: &mut Gathered<'_, '_>,
     token: Token,
 ) -> Result<(), Stop>
     requires running { engine.old.stop ≡ None }

@@ -1,10 +1,11 @@
-use crate::document::write_page;
+use crate::document::{Document, model, write_page};
 use crate::status::Status;
+use bumpalo::Bump;
 use std::alloc::{AllocError, Global};
 use std::test::Fail;
 use texml_base::MemorySink;
 use texml_token::Bytes;
-use texml_tree::{Elem, Op, Ops, Sets};
+use texml_tree::{Elem, Op, Sets};
 
 const SECTION: usize = 5;
 
@@ -46,11 +47,22 @@ fn op_of(alloc: Global, step: Step) -> Result<Op, AllocError> {
     }
 }
 
-fn push_all(alloc: Global, ops: &mut Ops, steps: &[Step]) -> Result<(), AllocError> {
-    for step in steps {
-        ops.push(op_of(alloc, *step)?)?;
+// Writes the page of the operations, made so many times.
+fn write_steps(
+    alloc: Global,
+    steps: &[Step],
+    times: usize,
+    out: &mut MemorySink,
+) -> Result<Status, AllocError> {
+    let content = model(alloc)?;
+    let arena = Bump::new(alloc);
+    let mut ops = Document::growing(alloc, &arena, &content);
+    for _time in 0..times {
+        for step in steps {
+            ops.add(&op_of(alloc, *step)?)?;
+        }
     }
-    Ok(())
+    Ok(write_page(alloc, &content, ops, out))
 }
 
 #[test]
@@ -65,10 +77,8 @@ fn what_the_table_refuses_is_a_status(rt: HostRuntime) -> Result<(), Fail> {
         (&[Step::Attr(SRC)], 5, "src", "document"),
     ];
     for (steps, code, child, parent) in rows {
-        let mut ops = Ops::new(alloc);
-        push_all(alloc, &mut ops, steps)?;
         let mut out = MemorySink::new(alloc, 1000, 0)?;
-        match write_page(alloc, &ops, &mut out) {
+        match write_steps(alloc, steps, 1, &mut out)? {
             Status::Model(fault) => {
                 assert_eq!(rt; fault.code, code);
                 assert_eq!(rt; fault.child.as_slice(), child.as_bytes());
@@ -85,12 +95,8 @@ fn what_the_table_refuses_is_a_status(rt: HostRuntime) -> Result<(), Fail> {
 fn two_hundred_elements_are_too_deep(rt: HostRuntime) -> Result<(), Fail> {
     let alloc = rt.alloc();
     for (count, code) in [(199, 4), (200, 6)] {
-        let mut ops = Ops::new(alloc);
-        for _i in 0..count {
-            push_all(alloc, &mut ops, &[Step::Open(QUOTE)])?;
-        }
         let mut out = MemorySink::new(alloc, 1000, 0)?;
-        match write_page(alloc, &ops, &mut out) {
+        match write_steps(alloc, &[Step::Open(QUOTE)], count, &mut out)? {
             Status::Model(fault) => assert_eq!(rt; fault.code, code),
             _ => assert!(rt; false),
         }
@@ -117,11 +123,9 @@ fn pages_are_those_of_the_table(rt: HostRuntime) -> Result<(), Fail> {
         ),
     ];
     for (steps, body) in rows {
-        let mut ops = Ops::new(alloc);
-        push_all(alloc, &mut ops, steps)?;
         let page = format!(in alloc; "{HEAD}{body}{TAIL}")?;
         let mut out = MemorySink::new(alloc, 1000, 0)?;
-        match write_page(alloc, &ops, &mut out) {
+        match write_steps(alloc, steps, 1, &mut out)? {
             Status::Done => assert_eq!(rt; out.bytes(), page.as_bytes()),
             _ => assert!(rt; false),
         }

@@ -1,13 +1,14 @@
 //! Gathers the operations that digestion gives, with texts that go on as one.
 
-ghost use Rattle.std.specs.Prelude.{◌≡◌, IfOk, OnOk};
+ghost use Rattle.std.specs.Prelude.{◌≡◌, [], IfOk, OnOk};
 ghost use Rattle.texml_top.specs.Gather.{nothing_yet, all_of};
 
+use crate::document::Document;
 use crate::table::{BREAK, CODE, PARAGRAPH};
 use std::alloc::{AllocError, Global};
 use std::mem;
 use texml_token::Bytes;
-use texml_tree::{Elem, Op, Ops, Sets};
+use texml_tree::{Elem, Op, Sets};
 
 /// What a token puts into the document.
 #[derive(Debug, Drop)]
@@ -21,22 +22,23 @@ pub enum Piece {
 }
 
 /// Operations, and behind them a text that may go on.
-#[derive(Debug, Drop)]
-pub struct Gathered {
-    pub ops: Ops,
+#[derive(Drop)]
+pub struct Gathered<'c, 'a> {
+    pub ops: Document<'c, 'a>,
     pub text: Bytes,
 }
 
-impl Gathered {
+impl<'c, 'a> Gathered<'c, 'a> {
     ghost use Rattle.texml_top.specs.Gather.{with_op, with_text, with_space, add_all, ops_of};
     ghost use Rattle.std.specs.Prelude.{[]};
 
     /// Nothing so far. It takes no memory.
-    pub fn new(alloc: Global) -> Gathered
+    pub fn new(alloc: Global, ops: Document<'c, 'a>) -> Gathered<'c, 'a>
+        requires { ops ≡ [] }
         ensures { result ≡ nothing_yet }
     {
         Gathered {
-            ops: Ops::new(alloc),
+            ops,
             text: Bytes::new(alloc),
         }
     }
@@ -66,8 +68,8 @@ impl Gathered {
     }
 
     /// All operations.
-    pub fn finish(self, alloc: Global) -> Result<Ops, AllocError>
-        ensures { IfOk result (λ ops. ops ≡ all_of self) }
+    pub fn finish(self, alloc: Global) -> Result<Document<'c, 'a>, AllocError>
+        ensures { IfOk result (λ ops. ops ≡ all_of self.entry) }
     {
         let mut gathered = self;
         gathered.end_text(alloc)?;
@@ -86,7 +88,7 @@ impl Gathered {
         ensures { OnOk result (self.new ≡ with_op self.old op) }
     {
         self.end_text(alloc)?;
-        self.ops.push(op)
+        self.ops.add(&op)
     }
 
     // Puts a text behind the others.
@@ -117,7 +119,6 @@ impl Gathered {
             return Ok(());
         }
         let text = mem::replace(&mut self.text, Bytes::new(alloc));
-        self.ops
-            .push(Op::Text(Bytes::from_slice(alloc, text.as_slice())?))
+        self.ops.add(&Op::Text(text))
     }
 }

@@ -8,10 +8,11 @@ ghost use Rattle.texml_top.specs.Run.{EndsAs, MayEnd, FilesBlamed, SinkBlamed, F
 ghost use Rattle.texml_top.specs.declared.request.Command.TheVariants.{Convert, Expand};
 
 use crate::digest::digest;
-use crate::document::write_page;
+use crate::document::{Document, model, write_page};
 use crate::request::{Command, read_request};
 use crate::start::start_engine;
 use crate::status::Status;
+use bumpalo::Bump;
 use std::alloc::Global;
 use texml_base::{Files, Sink};
 use texml_expand::Engine;
@@ -113,8 +114,14 @@ fn convert<F: Files, S: Sink>(
     ensures document { WritesDocument Convert result (S.ink out.old) (S.ink out.new) }
     ensures files { files.new ≡ files.old }
 {
-    match digest(alloc, engine, files, &mut Nobody) {
-        Ok(ops) => write_page(alloc, &ops, out),
+    let content = match model(alloc) {
+        Ok(content) => content,
+        Err(_) => return Status::NoMemory,
+    };
+    let arena = Bump::new(alloc);
+    let ops = Document::growing(alloc, &arena, &content);
+    match digest(alloc, engine, files, &mut Nobody, ops) {
+        Ok(ops) => write_page(alloc, &content, ops, out),
         Err(stop) => Status::from(stop),
     }
 }
@@ -157,7 +164,7 @@ fn trace<F: Files, S: Sink>(
         → FromState Expand (state_of engine.old) (λ all. WholeLines all (S.ink lines.old.sink.now) (S.ink lines.new.sink.now)) }
     ensures files { files.new ≡ files.old }
 {
-    match digest(alloc, engine, files, lines) {
+    match digest(alloc, engine, files, lines, Document::unwanted()) {
         Ok(_) => Status::Done,
         Err(stop) => Status::from(stop),
     }

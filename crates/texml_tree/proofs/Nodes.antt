@@ -10,5 +10,5 @@ use Rattle.texml_tree.specs.declared.tree.Node.TheFolds.{fold-roll-Node}
 use Rattle.texml_tree.specs.Tree.{Tree, element, trees}
 use Rattle.texml_tree.specs.Plain.{head_of, plain, plain_step}
 
-pub plain_element : (h : HeadCode) (kids : Bor (List Node)) → plain (view.Element h kids) ≡ element (head_of h) (trees (map plain kids.now))
+pub plain_element : (h : Bor HeadCode) (kids : Bor (List Node)) → plain (view.Element h kids) ≡ element (head_of h.now) (trees (map plain kids.now))
 plain_element h kids = ap plain (sym (variant.rolls-Element h kids)) ∙ fold-roll-Node Tree plain_step (open_node.Element h kids)

@@ -20,15 +20,15 @@ abbrev pub head_of : HeadCode → Head
 head_of h = record {
   elem = h.elem.0;
   identified = h.identified;
-  target = option_map (λ t. t.now) h.target;
-  sets = map set_of h.attrs.now;
-  marks = map mark_of h.labels.now;
+  target = option_map (λ t. t.now) h.given.now.target;
+  sets = map set_of h.given.now.attrs.now;
+  marks = map mark_of h.given.now.labels.now;
 }
 
 -- one node, with the plain tree of each child in its place
 abbrev pub plain_step : Node-F Tree → Tree
 plain_step (Text t) = text t.now
-plain_step (Element h kids) = element (head_of h) (trees kids.now)
+plain_step (Element h kids) = element (head_of h.now) (trees kids.now)
 
 abbrev pub plain : Node → Tree
 plain = fold-Node Tree plain_step

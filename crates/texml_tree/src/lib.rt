@@ -13,4 +13,4 @@ mod tree;
 pub use model_fault::ModelFault;
 pub use ops::{Op, Ops, Sets};
 pub use table::{Elem, ElementLine, ElementLines, Elements, Flags};
-pub use tree::{Attr, Head, Node, Tag, Tree, element, leaf};
+pub use tree::{Attr, Given, Head, Node, Tag, Tree, element, leaf};

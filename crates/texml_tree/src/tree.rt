@@ -23,12 +23,9 @@ pub struct Tag<'a> {
     pub number: &'a [u8],
 }
 
-/// What an element is, beside its children.
+/// What was given to an element. Most have nothing.
 #[derive(Clone, Copy)]
-pub struct Head<'a> {
-    pub elem: Elem,
-    /// It is the root, or was flagged to get an id in the table that the tree was made by.
-    pub identified: bool,
+pub struct Given<'a> {
     /// The label of the reference that started it.
     pub target: Option<&'a [u8]>,
     /// The attributes in the order in which they were set. The last one of a number counts.
@@ -37,11 +34,21 @@ pub struct Head<'a> {
     pub labels: &'a [Tag<'a>],
 }
 
+/// What an element is, beside its children.
+#[derive(Clone, Copy)]
+pub struct Head<'a> {
+    pub elem: Elem,
+    /// It is the root, or was flagged to get an id in the table that the tree was made by.
+    pub identified: bool,
+    /// What was given to it, which stands apart, since most elements have nothing.
+    pub given: &'a Given<'a>,
+}
+
 /// A text, or an element with its children.
 #[derive(Clone, Copy)]
 pub enum Node<'a> {
     Text(&'a [u8]),
-    Element(Head<'a>, &'a [Node<'a>]),
+    Element(&'a Head<'a>, &'a [Node<'a>]),
 }
 
 /// A tree, whose parts lie in an arena.
@@ -62,7 +69,7 @@ pub fn leaf<'a>(arena: &'a Bump, bytes: &[u8]) -> Result<Node<'a>, AllocError>
     Ok(Node::Text(copy))
 }
 
-/// An element whose children are copied into the arena.
+/// An element which is copied into the arena with its children.
 ///
 /// # Errors
 ///
@@ -75,7 +82,8 @@ pub fn element<'a>(
     ensures { IfOk result (λ node. plain node ≡ made_element (head_of head.entry) (trees (map plain children.now))) }
 {
     let copy: &'a [Node<'a>] = arena.try_alloc_slice_copy(children)?;
-    Ok(Node::Element(head, copy))
+    let kept: &'a Head<'a> = arena.try_alloc(head)?;
+    Ok(Node::Element(kept, copy))
 }
 
 impl<'a> Tree<'a> {
@@ -141,7 +149,7 @@ impl<'a> Node<'a> {
     {
         match self {
             Node::Text(_) => &[],
-            Node::Element(head, _) => head.labels,
+            Node::Element(head, _) => head.given.labels,
         }
     }
 
@@ -151,7 +159,7 @@ impl<'a> Node<'a> {
     {
         match self {
             Node::Text(_) => None,
-            Node::Element(head, _) => head.target,
+            Node::Element(head, _) => head.given.target,
         }
     }
 
@@ -171,7 +179,7 @@ impl<'a> Head<'a> {
     pub fn attr(&self, at: usize) -> Option<&'a [u8]>
         ensures { option_map (λ v. v.now) result ≡ value_of at (head_of self.now).sets }
     {
-        last_value(self.attrs, at)
+        last_value(self.given.attrs, at)
     }
 }
 

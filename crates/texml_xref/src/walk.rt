@@ -56,7 +56,7 @@ pub(crate) fn visit<'a>(
     match node {
         Node::Text(_) => Ok(()),
         Node::Element(head, children) => {
-            meet(alloc, kinds, found, head)?;
+            meet(alloc, kinds, found, *head)?;
             for child in *children {
                 visit(alloc, kinds, found, child)?;
             }
@@ -95,7 +95,7 @@ fn note_id<'a>(
         let place = ids.as_slice().len() as u64;
         let id = id_text(alloc, place)?;
         ids.push(id)?;
-        own_all(alloc, owners, place, head.labels)?;
+        own_all(alloc, owners, place, head.given.labels)?;
     }
     Ok(())
 }
@@ -117,7 +117,7 @@ fn note_target<'a>(
     ensures { OnOk result (targets_of targets.new.items ≡ targets_of targets.old.items ++ map (λ h. h.target) (placed (place_of reference) (head_of head.now ∷ []))) }
 {
     if is_placed(reference, head) {
-        targets.push(head.target)?;
+        targets.push(head.given.target)?;
     }
     Ok(())
 }

@@ -1,5 +1,4 @@
 use Rattle.std.proofs.Common.{◌∙◌, ap, sym}
-use Rattle.texml_tree.specs.Tree.{trees}
 use Rattle.texml_tree.specs.Plain.{head_of}
 use Rattle.texml_html.specs.Html.{link_start}
 use Rattle.texml_html.specs.Walk.{places_of, rules_in}

@@ -14,7 +14,7 @@ invariant-loop-child g l = record {
   left : Left (rules_in l.page) (linked_in l.page) (nodes (rules_in l.page) (linked_in l.page))
       (lent_by g.S.Sink.ink g.S.Sink.faults l.fn.out) (lent_by g.S.Sink.ink g.S.Sink.faults l.out) (places_of l.places) (drop l.child-index l.child-items)
       whole (behind (linked_in l.page) (places_of l.fn.places) (heads (plain l.node)));
-  closes : whole ++ end_tag (rules_in l.page) (head_of l.head) ≡ node (rules_in l.page) (linked_in l.page) (places_of l.fn.places) (plain l.node);
+  closes : whole ++ end_tag (rules_in l.page) (head_of l.head.now) ≡ node (rules_in l.page) (linked_in l.page) (places_of l.fn.places) (plain l.node);
 }
 
 abbrev pub invariant-loop-child-else-has_inside : goal.invariant-loop-child-else-has_inside

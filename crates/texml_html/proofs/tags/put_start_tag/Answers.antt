@@ -2,7 +2,7 @@ use Rattle.std.proofs.Common.{ap}
 use Rattle.std.specs.List.{flat_map}
 use Rattle.texml_tree.specs.Plain.{head_of}
 use Rattle.texml_html.specs.Html.{class, set_attribute}
-use Rattle.texml_html.specs.Walk.{places_of, rules_in, linked_in}
+use Rattle.texml_html.specs.Walk.{rules_in}
 use Rattle.texml_html.proofs.Going.{head_known}
 use Rattle.texml_html.proofs.Pieces.{wrote_then, wrote_same}
 use Rattle.texml_html.proofs.tags.put_start_tag.Goals as goal

@@ -13,5 +13,5 @@ loop-child-preserved g t c =
 
 pub returns-after-loop-child : goal.returns-after-loop-child
 returns-after-loop-child g t c =
-    wrote_same _ _ _ _ (texts_end Text c.in-Element.children.now c.loop-child.child-index (head_of c.in-Element.field-0) (plain c.args.node.now) c.loop-child-test.false (ap plain c.in-Element.is ∙ plain_element c.in-Element.field-0 c.in-Element.children))
+    wrote_same _ _ _ _ (texts_end Text c.in-Element.children.now c.loop-child.child-index (head_of c.in-Element.field-0.now) (plain c.args.node.now) c.loop-child-test.false (ap plain c.in-Element.is ∙ plain_element c.in-Element.field-0 c.in-Element.children))
     c.loop-child.invariant

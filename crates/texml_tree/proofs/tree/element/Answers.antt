@@ -5,5 +5,5 @@ use Rattle.texml_tree.proofs.Nodes.{plain_element}
 use Rattle.texml_tree.proofs.tree.element.Goals as goal
 
 pub returns : goal.returns
-returns c = plain_element c.args.head _
-    ∙ (λ i. element (head_of c.args.head) (trees (map plain (c.in_ok-copy.ensures i))))
+returns c = plain_element _ _
+    ∙ (λ i. element (head_of (c.in_ok-kept.ensures i)) (trees (map plain (c.in_ok-copy.ensures i))))

@@ -7,7 +7,7 @@ use Rattle.texml_xref.proofs.walk.+visit.Goals as goal
 
 pub loop-child-init : goal.loop-child-init
 loop-child-init t c = λ hs has. record {
-  done = head_of c.in-Element.head ∷ [];
+  done = head_of c.in-Element.head.now ∷ [];
   has = c.in_ok-meet-in-Element.ensures hs has;
   rest = sym (ap heads (ap plain c.in-Element.is ∙ plain_element c.in-Element.head c.in-Element.children));
 }
