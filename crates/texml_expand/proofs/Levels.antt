@@ -8,7 +8,7 @@ use Rattle.texml_scope.specs.Texts.{Meaning}
 use Rattle.texml_scope.specs.declared.values.MeaningOf.TheVariants.{Undefined}
 use Rattle.texml_scan.specs.declared.looks.Look.TheVariants.{End}
 use Rattle.texml_scan.specs.Grammar.{Expanded, Raw, Verdict, Wanting, Decided, Faulty, Remainder}
-use Rattle.texml_expand.specs.Next.{Taken}
+use Rattle.texml_input.specs.Next.{Taken}
 use Rattle.texml_expand.specs.State.{State, Tex, Limit, nothing, Answer, Done, Ended, chain, IsDecided, fault_at, give}
 use Rattle.texml_expand.specs.Take.{take, meaning_of}
 use Rattle.texml_expand.specs.Arguments.{called}

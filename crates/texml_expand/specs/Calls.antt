@@ -6,7 +6,7 @@ use Rattle.texml_scope.specs.declared.values.MeaningOf.TheVariants.{Macro, Built
 use Rattle.texml_scope.specs.declared.builtins.TheConstants.{NUMBER, ROMANNUMERAL, THE}
 use Rattle.texml_scan.specs.declared.looks.Look.{Look}
 use Rattle.texml_scan.specs.Grammar.{Remainder}
-use Rattle.texml_expand.specs.Next.{Taken}
+use Rattle.texml_input.specs.Next.{Taken}
 use Rattle.texml_expand.specs.State.{Reading}
 
 -- what can be expanded: the call of a macro, or a builtin
