@@ -188,7 +188,7 @@ scan_by calls g seen = scan_on calls g seen (g (looks seen))
 -- What builtins give
 
 -- there must be a token
-abbrev pub needed : Option Looked → Reading Looked
+abbrev pub needed : {A : Type 0} → Option A → Reading A
 needed None = fail FILE_ENDED []
 needed (Some x) = give x
 

@@ -4,11 +4,12 @@ use Rattle.std.specs.Option.{option_to_list}
 use Rattle.texml_token.specs.Token.{Token}
 use Rattle.texml_token.specs.declared.fault.Fault.{Fault}
 use Rattle.texml_scope.specs.Texts.{World}
+use Rattle.texml_cond.specs.declared.limits.Bound.{Bound}
 use Rattle.texml_watch.specs.declared.record.Record.{Record}
 use Rattle.texml_expand.specs.Rest.{Item, Place, size}
 
 -- what names mean, what is still to be read, the token that comes after the next assignment, the expansions begun, their limit, how many are open,
--- and where the line stands that was loaded last
+-- where the line stands that was loaded last, the limits of the open conditionals, the innermost last, and the name of the job
 pub record State : Type 0 where
   pub world : World
   pub rest : List (Item Token)
@@ -17,6 +18,8 @@ pub record State : Type 0 where
   pub limit : ℕ
   pub nesting : ℕ
   pub place : Place
+  pub conditionals : List Bound
+  pub job : List ℕ
 
 -- how much may still be read where no expansion begins: the rest, and the tokens that are kept for after groups and for after an assignment
 abbrev pub room : State → ℕ

@@ -1,6 +1,6 @@
 //! Fetching, expanding and looking at tokens for quantities: these lead back to each other.
 
-ghost use Rattle.std.specs.Prelude.{◌≡◌, ◌+◌, ◌-◌, ◌≤◌, ◌∷◌, ◌++◌, Some, None, [], length, map, IfSome, IsSome, IfOk, OnOk, option_map, option_to_list, pos};
+ghost use Rattle.std.specs.Prelude.{◌≡◌, ◌+◌, ◌-◌, ◌≤◌, ◌∷◌, ◌++◌, Some, None, [], length, map, IfSome, IsSome, IfOk, OnOk, option_map, option_to_list, pos, OnErr, encode_utf8_all};
 ghost use Rattle.std.specs.List.{All};
 ghost use Rattle.texml_token.specs.Numbers.{token_at, tokens_at, TokenWithin, TokensWithin, OptionWithin};
 ghost use Rattle.texml_scope.specs.Numbers.{meaning_at, MeaningWithin};
@@ -9,13 +9,14 @@ ghost use Rattle.texml_expand.specs.Rest.{Tok};
 ghost use Rattle.texml_expand.specs.Next.{Taken};
 ghost use Rattle.texml_expand.specs.Take.{meaning_of};
 ghost use Rattle.texml_expand.specs.State.{tell as spec_tell};
-ghost use Rattle.texml_expand.specs.Calls.{expandable};
+ghost use Rattle.texml_expand.specs.Calls.{expandable, tokens_of};
+ghost use Rattle.texml_token.specs.Spelling.{shown as shown_text};
 ghost use Rattle.texml_expand.specs.Expand.{front_taken, begin, finish, record_of, level};
 ghost use Rattle.texml_expand.specs.Expand.{front as spec_front, given as spec_given, fetch as spec_fetch, look as spec_look, expand_once as spec_expand_once, read_int as spec_read_int, read_index as spec_read_index};
 ghost use Rattle.texml_expand.specs.Quantities.{next_looked, as_it_counts};
 ghost use Rattle.texml_expand.specs.Variables.{variable_at as spec_variable_at};
 ghost use Rattle.texml_expand.specs.Quantities.{the as spec_the, internal as spec_internal, internal_of, look as look_in};
-ghost use Rattle.texml_expand.specs.Fronts.{front_at, front_count, FrontWithin, is_undefined as means_nothing, expandable_at, ExpandableWithin, builtin_in, expandable_in, frozen_in, looked_at as looked_at_by, LookedWithin};
+ghost use Rattle.texml_expand.specs.Fronts.{gift_at, gift_items, GiftWithin, front_at, front_count, FrontWithin, is_undefined as means_nothing, expandable_at, ExpandableWithin, builtin_in, expandable_in, frozen_in, looked_at as looked_at_by, LookedWithin};
 ghost use Rattle.texml_expand.specs.VariableCodes.{internal_at, InternalWithin, HasNumber};
 ghost use Rattle.texml_expand.specs.Machine.{machine_rest};
 ghost use Rattle.texml_expand.specs.Scanning.{Turned};
@@ -25,6 +26,7 @@ ghost use Rattle.texml_expand.specs.Hearing.{hears, hears_part, Meets, Follows};
 ghost use Rattle.texml_expand.specs.Doing.{Does};
 
 use super::{ESCAPE, Engine};
+use crate::conditional::{Test, test_at};
 use crate::internal::{Internal, held_of};
 use crate::machine::{Machine, Scanned, Value};
 use crate::rest::Read;
@@ -33,7 +35,10 @@ use crate::variables::{Index, index_of, key_of, variable_at};
 use std::alloc::AllocError;
 use texml_base::{Files, Trouble};
 use texml_scan::{Held, IntScan, Look, looked_at};
-use texml_scope::builtins::{NUMBER, ROMANNUMERAL, THE};
+use texml_cond::Word;
+use texml_scope::builtins::{
+    CSNAME, ELSE, EXPANDAFTER, FI, JOBNAME, NOEXPAND, NUMBER, OR, ROMANNUMERAL, STRING, THE,
+};
 use texml_scope::{Macro, Meaning};
 use texml_token::{Bytes, Name, Token, Tokens, fault_code, show, spell};
 use texml_watch::{Record, Teller};
@@ -51,9 +56,23 @@ const FIXED: Token = Token::Named(Name(0));
 #[derive(Drop)]
 pub(super) enum Expandable {
     Call(Macro),
+    ExpandAfter,
+    NoExpand,
+    CsName,
+    String,
     Number,
     RomanNumeral,
     The,
+    JobName,
+    Conditional(Test),
+    PartEnd(Word),
+}
+
+// What an expansion gives: tokens that go back, or one that goes back kept from being expanded.
+#[derive(Drop)]
+pub(super) enum Gift {
+    Puts(Tokens),
+    Freezes(Token),
 }
 
 // What stands at the front: nothing, a token that isn't expanded, or one that is, and what it expands as.
@@ -267,8 +286,8 @@ impl Engine {
         ensures begins { OnOk result (Begins (state_of self.old) (state_of self.new)) }
     {
         self.begin()?;
-        let list = self.given(tell, found, deep)?;
-        self.finish(tell, token, &list)
+        let gift = self.given(tell, token, found, deep)?;
+        self.finish(tell, token, gift)
     }
 
     // Begins an expansion.
@@ -293,35 +312,35 @@ impl Engine {
         Ok(())
     }
 
-    // Ends an expansion, whose tokens are put before what is to be read, and tells of it.
-    fn finish<T: Teller>(&mut self, tell: &mut T, token: Token, list: &Tokens) -> Result<(), Stop>
+    // Ends an expansion, whose gift is put before what is to be read, and tells of it.
+    fn finish<T: Teller>(&mut self, tell: &mut T, token: Token, gift: Gift) -> Result<(), Stop>
         requires running { self.old.stop ≡ None }
         requires nested { 1 ≤ self.old.nesting }
         requires token { TokenWithin (length self.old.names) token }
-        requires list { TokensWithin (length self.old.names) list.now }
+        requires gift { GiftWithin (length self.old.names) gift }
         ensures finishes { Meets (hears T.wanting T.heard) (hears_part T.wanting T.part)
-            (finish (token_at self.old.names token) (tokens_at self.old.names list.now) (state_of self.old)) result (state_of self.new) tell.old tell.new }
+            (finish (token_at self.old.names token) (gift_at self.old.names gift) (state_of self.old)) result (state_of self.new) tell.old tell.new }
         ensures stops { Stops result (outside 0 (T.faults tell.old)) (outside 0 (T.faults tell.new)) self.new.stop }
-        ensures is { OnOk result (self.new ≡ record self.old { items = map Tok list.now ++ self.old.items; nesting = self.old.nesting - 1 }) }
+        ensures is { OnOk result (self.new ≡ record self.old { items = gift_items gift ++ self.old.items; nesting = self.old.nesting - 1 }) }
         ensures progress { Progress self.old self.new }
         ensures limit { IsAtLimit result self.new }
     {
-        match self.rest.push_tokens(list.as_slice()) {
+        match self.put_gift(&gift) {
             Ok(()) => {
                 self.nesting -= 1;
-                self.tell_of(tell, token, list)
+                self.tell_of(tell, token, &gift)
             }
             Err(_) => Err(self.no_memory()),
         }
     }
 
     // Tells of an expansion, where that is wanted.
-    fn tell_of<T: Teller>(&mut self, tell: &mut T, token: Token, list: &Tokens) -> Result<(), Stop>
+    fn tell_of<T: Teller>(&mut self, tell: &mut T, token: Token, gift: &Gift) -> Result<(), Stop>
         requires running { self.old.stop ≡ None }
         requires token { TokenWithin (length self.old.names) token }
-        requires list { TokensWithin (length self.old.names) list.now }
+        requires gift { GiftWithin (length self.old.names) gift.now }
         ensures told { Meets (hears T.wanting T.heard) (hears_part T.wanting T.part)
-            (spec_tell (record_of (token_at self.old.names token) (tokens_at self.old.names list.now)) (state_of self.old)) result (state_of self.new) tell.old tell.new }
+            (spec_tell (record_of (token_at self.old.names token) (tokens_of (gift_at self.old.names gift.now))) (state_of self.old)) result (state_of self.new) tell.old tell.new }
         ensures stops { Stops result (outside 0 (T.faults tell.old)) (outside 0 (T.faults tell.new)) self.new.stop }
         ensures same { OnOk result (self.new ≡ self.old) }
         ensures progress { Progress self.old self.new }
@@ -330,7 +349,7 @@ impl Engine {
         if !tell.wants() {
             return Ok(());
         }
-        let news = match self.record_of(token, list) {
+        let news = match self.record_of(token, gift) {
             Ok(news) => news,
             Err(_) => return Err(self.no_memory()),
         };
@@ -344,16 +363,26 @@ impl Engine {
         }
     }
 
+    // What an expansion gives is put before what is to be read.
+    fn put_gift(&mut self, gift: &Gift) -> Result<(), AllocError>
+        ensures ok { OnOk result (self.new ≡ record self.old { items = gift_items gift.now ++ self.old.items }) }
+        ensures err { OnErr result (self.new ≡ self.old) }
+    {
+        match gift {
+            Gift::Puts(list) => self.rest.push_tokens(list.as_slice()),
+            Gift::Freezes(token) => self.rest.back(*token, true),
+        }
+    }
+
     // The record of an expansion.
-    fn record_of(&self, token: Token, list: &Tokens) -> Result<Record, AllocError>
+    fn record_of(&self, token: Token, gift: &Gift) -> Result<Record, AllocError>
         requires token { TokenWithin (length self.now.names) token }
-        requires list { TokensWithin (length self.now.names) list.now }
-        ensures { IfOk result (λ news. news ≡ record_of (token_at self.now.names token) (tokens_at self.now.names list.now)) }
+        requires gift { GiftWithin (length self.now.names) gift.now }
+        ensures { IfOk result (λ news. news ≡ record_of (token_at self.now.names token) (tokens_of (gift_at self.now.names gift.now))) }
     {
         let mut spelled = Bytes::new(self.alloc);
         spell(token, ESCAPE, &self.names, &mut spelled)?;
-        let mut shown = Bytes::new(self.alloc);
-        show(list, &self.names, &mut shown)?;
+        let shown = self.shown_gift(gift)?;
         Ok(Record {
             token: spelled,
             put: shown,
@@ -361,33 +390,61 @@ impl Engine {
         })
     }
 
+    // What an expansion gives, as it is told.
+    fn shown_gift(&self, gift: &Gift) -> Result<Bytes, AllocError>
+        requires { GiftWithin (length self.now.names) gift.now }
+        ensures { IfOk result (λ text. text ≡ encode_utf8_all (shown_text (tokens_of (gift_at self.now.names gift.now)))) }
+    {
+        let mut text = Bytes::new(self.alloc);
+        match gift {
+            Gift::Puts(list) => show(list, &self.names, &mut text)?,
+            Gift::Freezes(token) => {
+                let mut list = Tokens::new(self.alloc);
+                list.push(*token)?;
+                show(&list, &self.names, &mut text)?
+            }
+        }
+        Ok(text)
+    }
+
     // What an expansion gives.
     #[cycle(expanding)]
     fn given<T: Teller>(
         &mut self,
         tell: &mut T,
+        token: Token,
         found: Expandable,
         deep: usize,
-    ) -> Result<Tokens, Stop>
+    ) -> Result<Gift, Stop>
         requires running { self.old.stop ≡ None }
         requires sound { Sound self.old }
+        requires token { TokenWithin (length self.old.names) token }
         requires found { ExpandableWithin (length self.old.names) found }
         ensures does { Does (hears T.wanting T.heard) (hears_part T.wanting T.part)
-            (λ n. spec_given (level n) (expandable_at self.old.names found)) (ok_at (tokens_at self.new.names) result) self.old self.new (T.faults tell.old) (T.faults tell.new) tell.old tell.new }
+            (λ n. spec_given (level n) (token_at self.old.names token) (expandable_at self.old.names found)) (ok_at (gift_at self.new.names) result) self.old self.new (T.faults tell.old) (T.faults tell.new) tell.old tell.new }
         ensures lower { OnOk result (Lower 0 (state_of self.old) (state_of self.new)) }
-        ensures within { IfOk result (TokensWithin (length self.new.names)) }
+        ensures within { IfOk result (GiftWithin (length self.new.names)) }
     {
         match found {
-            Expandable::Call(found) => self.called(found),
+            Expandable::Call(found) => match self.called(found) {
+                Ok(list) => Ok(Gift::Puts(list)),
+                Err(stop) => Err(stop),
+            },
             Expandable::Number => {
                 let value = self.int(tell, deep)?;
-                self.number(value)
+                let list = self.number(value)?;
+                Ok(Gift::Puts(list))
             }
             Expandable::RomanNumeral => {
                 let value = self.int(tell, deep)?;
-                self.roman_numeral(value)
+                let list = self.roman_numeral(value)?;
+                Ok(Gift::Puts(list))
             }
-            Expandable::The => self.the(tell, deep),
+            Expandable::The => {
+                let list = self.the(tell, deep)?;
+                Ok(Gift::Puts(list))
+            }
+            _ => Err(self.no_memory()),
         }
     }
 
@@ -661,10 +718,18 @@ fn builtin_at(place: u16) -> Option<Expandable>
     ensures { result ≡ builtin_in place }
 {
     match place {
+        EXPANDAFTER => Some(Expandable::ExpandAfter),
+        NOEXPAND => Some(Expandable::NoExpand),
+        CSNAME => Some(Expandable::CsName),
+        STRING => Some(Expandable::String),
         NUMBER => Some(Expandable::Number),
         ROMANNUMERAL => Some(Expandable::RomanNumeral),
         THE => Some(Expandable::The),
-        _ => None,
+        JOBNAME => Some(Expandable::JobName),
+        ELSE => Some(Expandable::PartEnd(Word::Else)),
+        OR => Some(Expandable::PartEnd(Word::Or)),
+        FI => Some(Expandable::PartEnd(Word::Fi)),
+        _ => test_at(place).map(Expandable::Conditional),
     }
 }
 
