@@ -15,6 +15,9 @@ pub mod Calling
 pub mod Readings
 pub mod Lawful
 pub mod Looking
+pub mod Standing
+pub mod Giving
+pub mod Branching
 pub mod Levels
 pub mod Settle
 pub mod Total

@@ -2,6 +2,7 @@
 use Rattle.std.specs.Prelude.{ℕ, ℤ, negsuc, ◌==◌, ◌-◌, List, [], ◌∷◌, ◌++◌, codes, length, take as first, nat_eq, if◌then◌else◌, fold}
 use Rattle.std.specs.Option.{unwrap_or}
 use Rattle.std.specs.List.{ends_with}
+use Rattle.std.specs.Str.{chars}
 use Rattle.texml_token.specs.Token.{Token}
 use Rattle.texml_token.specs.declared.fault_code.TheConstants.{FILE_ENDED}
 use Rattle.texml_token.specs.Spelling.{spelled}
@@ -78,4 +79,4 @@ job_name name = without_end (codes ".tex") (last_part name)
 
 -- \jobname gives its characters
 abbrev pub job : Reading (List Token)
-job s = give (printed_tokens s.job) s
+job s = give (printed_tokens (job_name (chars s.job))) s

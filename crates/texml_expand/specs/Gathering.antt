@@ -18,7 +18,7 @@ use Rattle.texml_expand.specs.Braces.{absorbed}
 use Rattle.texml_expand.specs.Variables.{Internal, Number, Dimension, Glue, Tokens}
 use Rattle.texml_expand.specs.Calls.{Expandable, The, Gathering, Calls}
 use Rattle.texml_expand.specs.Front.{Front, Nothing, Plain, Expands, front}
-use Rattle.texml_expand.specs.Quantities.{counts_as, expanded, needed, internal_now, shown}
+use Rattle.texml_expand.specs.Quantities.{counts_as, next_internal, shown}
 use Rattle.texml_expand.specs.Begin.{begin, finished, record_of}
 
 -- What one more token decides behind those that were gathered
@@ -110,7 +110,5 @@ copied t q = do
 abbrev pub copy_by : Calls → Token → Reading (List Token)
 copy_by calls t = do
   begin
-  o ← expanded calls
-  x ← needed o
-  q ← internal_now calls x.counts
+  q ← next_internal calls
   copied t q

@@ -202,10 +202,15 @@ shown (Tokens list) = list
 abbrev pub internal_now : Calls → Token → Reading Internal
 internal_now calls t s = internal calls (means s.world t) s
 
--- what \the gives: the quantity or the list of tokens that begins with the next token
-abbrev pub the : Calls → Reading (List Token)
-the calls = do
+-- the quantity or the list of tokens that begins with the next token
+abbrev pub next_internal : Calls → Reading Internal
+next_internal calls = do
   o ← expanded calls
   x ← needed o
-  q ← internal_now calls x.counts
+  internal_now calls x.counts
+
+-- what \the gives
+abbrev pub the : Calls → Reading (List Token)
+the calls = do
+  q ← next_internal calls
   give (shown q)

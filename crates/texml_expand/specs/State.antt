@@ -9,7 +9,7 @@ use Rattle.texml_watch.specs.declared.record.Record.{Record}
 use Rattle.texml_expand.specs.Rest.{Item, Place, size}
 
 -- what names mean, what is still to be read, the token that comes after the next assignment, the expansions begun, their limit, how many are open,
--- where the line stands that was loaded last, the limits of the open conditionals, the innermost last, and the name of the job
+-- where the line stands that was loaded last, the limits of the open conditionals, the innermost last, and the name of the main file as it was given
 pub record State : Type 0 where
   pub world : World
   pub rest : List (Item Token)
