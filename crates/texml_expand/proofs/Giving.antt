@@ -1,8 +1,16 @@
 -- What commands of expansion give is lawful.
-use Rattle.std.proofs.Common.{Bool, true, false, if◌then◌else◌, List, [], ◌∷◌, Option}
+use Rattle.std.proofs.Common.{ℕ, Bool, true, false, if◌then◌else◌, List, [], ◌∷◌, Option}
+use Rattle.std.specs.Str.{chars}
 use Rattle.texml_token.specs.Token.{Token, Named}
 use Rattle.texml_token.specs.declared.fault_code.TheConstants.{FILE_ENDED}
 use Rattle.texml_token.specs.Spelling.{spelled}
+use Rattle.texml_scope.specs.Groups.{set_local}
+use Rattle.texml_scope.specs.Values.{meaning_in}
+use Rattle.texml_scope.specs.Texts.{key_eq}
+use Rattle.texml_scope.specs.declared.values.KeyOf.TheVariants.{Name as NameKey}
+use Rattle.texml_scope.specs.declared.values.MeaningOf.TheVariants.{Builtin}
+use Rattle.texml_scope.specs.declared.values.ValueOf.TheVariants.{Means}
+use Rattle.texml_scope.specs.declared.builtins.TheConstants.{RELAX}
 use Rattle.texml_expand.specs.declared.gathering.Gathering.TheVariants.{Name}
 use Rattle.texml_expand.specs.Next.{Taken}
 use Rattle.texml_expand.specs.State.{State, room, Reading, chain, give, change}
@@ -12,7 +20,7 @@ use Rattle.texml_expand.specs.Calls.{Gift, Puts, Freezes, Calls}
 use Rattle.texml_expand.specs.Quantities.{needed}
 use Rattle.texml_expand.specs.Front.{Front, Nothing, Plain, Expands, front}
 use Rattle.texml_expand.specs.Expansion.{puts, one_token, behind_first, expand_after, no_expand, escape_of, spelled_now, string, job_name, job}
-use Rattle.texml_expand.specs.Names.{text_of, with_name, named, cs_name}
+use Rattle.texml_expand.specs.Names.{text_of, is_undefined, with_name, named, cs_name}
 use Rattle.texml_expand.specs.Contract.{Lower}
 use Rattle.texml_expand.proofs.Leading.{lower_none}
 use Rattle.texml_expand.proofs.Lawful.{By, Lawful, lawful_give, lawful_fail, lawful_by, lawful_then, lawful_change, lawful_expand, lawful_gather}
