@@ -18,7 +18,7 @@ use Rattle.texml_expand.specs.Take.{means}
 use Rattle.texml_expand.specs.Branches.{Test, If, IfCat, IfX, IfNum, IfDim, IfOdd, IfTrue, IfFalse, IfCase, Sought, End, Met, Ends, Chooses, Forbidden, Passes, Choice, Comes, Skips, meets, choose, choose_case}
 use Rattle.texml_expand.specs.Calls.{Gift, Puts, Calls}
 use Rattle.texml_expand.specs.Quantities.{int_text, dimension_text, needed}
-use Rattle.texml_expand.specs.Next.{Taken}
+use Rattle.texml_input.specs.Next.{Taken}
 use Rattle.texml_expand.specs.Expansion.{one_token}
 use Rattle.texml_expand.specs.Conditionals.{open_test, bounded, closed, face, face_now, next_face, of_faces, same_code, same_category, same_meaning, same_meanings, compares, first_code, compared, number, dimension, is_odd, odd, chooses, tested, reached, skipped, met_own, met_inner, met_word, seek_past, seek, chosen, none, conditional, to_end, word_comes, word_by, part_end}
 use Rattle.texml_expand.specs.Contract.{Lower}

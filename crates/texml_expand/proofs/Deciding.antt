@@ -1,8 +1,8 @@
 -- Readings that decide.
 use Rattle.std.proofs.Common.{◌≡◌, refl}
-use Rattle.texml_expand.specs.Next.{Given, Got, AtEnd, Invalid, next}
+use Rattle.texml_input.specs.Next.{Given, Got, AtEnd, Invalid, next}
 use Rattle.texml_expand.specs.State.{State, Gains, Answer, Done, Ended, Unfinished, Reading, nothing, after, chain, IsDecided}
-use Rattle.texml_expand.specs.Codes.{cats_of, end_of}
+use Rattle.texml_input.specs.Codes.{cats_of, end_of}
 use Rattle.texml_expand.specs.Take.{take_given, take}
 use Rattle.texml_expand.proofs.Leading.{Leads}
 

@@ -12,7 +12,7 @@ use Rattle.texml_scope.specs.declared.values.MeaningOf.TheVariants.{Builtin}
 use Rattle.texml_scope.specs.declared.values.ValueOf.TheVariants.{Means}
 use Rattle.texml_scope.specs.declared.builtins.TheConstants.{RELAX}
 use Rattle.texml_expand.specs.declared.gathering.Gathering.TheVariants.{Name}
-use Rattle.texml_expand.specs.Next.{Taken}
+use Rattle.texml_input.specs.Next.{Taken}
 use Rattle.texml_expand.specs.State.{State, room, Reading, chain, give, change}
 use Rattle.texml_expand.specs.Take.{take}
 use Rattle.texml_expand.specs.Printed.{printed_tokens}

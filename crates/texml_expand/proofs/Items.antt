@@ -5,7 +5,7 @@ use Rattle.std.proofs.lemmas.List.Elements.{All-cons, All-head, All-tail}
 use Rattle.texml_token.specs.Numbers.{Table, Extends, tokens_at, token_at, TokenWithin, TokensWithin}
 use Rattle.texml_token.specs.declared.tokens.Token.{Token as TokenCode}
 use Rattle.texml_token.proofs.Translation.{map_same, token_kept, token_more}
-use Rattle.texml_expand.specs.Rest.{Page, Item, Tok, Frozen, Text, item_at, items_at, ItemWithin, ItemsWithin, back_as, item_size, size}
+use Rattle.texml_input.specs.Rest.{Page, Item, Tok, Frozen, Text, item_at, items_at, ItemWithin, ItemsWithin, back_as, item_size, size}
 
 -- the table grows
 item_grown : (old new : Table) → Extends old new → (x : Item TokenCode) → ItemWithin (length old) x → item_at new x ≡ item_at old x

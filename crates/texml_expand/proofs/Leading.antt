@@ -1,8 +1,8 @@
 -- Where a reading leads, and that taking leaves less to be read.
 use Rattle.std.proofs.Common.{◌≡◌, ◌+◌, ◌≤◌, ℕ, length, Option, refl, ◌∙◌, subst, arith, inl, inr, eq-or-lt_of_le}
 use Rattle.std.specs.Option.{option_to_list}
-use Rattle.texml_expand.specs.Next.{Given, Got, AtEnd, Invalid, next}
-use Rattle.texml_expand.specs.Codes.{cats_of, end_of}
+use Rattle.texml_input.specs.Next.{Given, Got, AtEnd, Invalid, next}
+use Rattle.texml_input.specs.Codes.{cats_of, end_of}
 use Rattle.texml_expand.specs.State.{State, Gains, Answer, Done, Ended, Unfinished, Reading, after, chain}
 use Rattle.texml_expand.specs.Take.{take, take_given}
 use Rattle.texml_expand.specs.Contract.{Lower, Begins}

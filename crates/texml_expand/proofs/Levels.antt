@@ -8,7 +8,7 @@ use Rattle.texml_scan.specs.declared.looks.Look.TheVariants.{End}
 use Rattle.texml_scan.specs.Grammar.{Expanded, Raw, Verdict as Scanned, Wanting, Decided, Faulty, Remainder}
 use Rattle.texml_expand.specs.declared.feeding.Verdict.{Verdict}
 use Rattle.texml_expand.specs.declared.feeding.Verdict.TheVariants.{TooShort, Yields, Refuses}
-use Rattle.texml_expand.specs.Rest.{Item, Tok}
+use Rattle.texml_input.specs.Rest.{Item, Tok}
 use Rattle.texml_expand.specs.State.{State, Tex, Limit, nothing, Answer, Done, Ended, chain, IsDecided, fault_at, give}
 use Rattle.texml_expand.specs.Arguments.{called}
 use Rattle.texml_expand.specs.Printed.{printed_tokens, roman_text}

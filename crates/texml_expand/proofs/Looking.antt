@@ -13,7 +13,7 @@ use Rattle.texml_scan.specs.Looked.{look_of}
 use Rattle.texml_expand.specs.declared.variables.Variable.{Variable}
 use Rattle.texml_expand.specs.declared.variables.Index.{Index}
 use Rattle.texml_expand.specs.declared.variables.Index.TheVariants.{Alone, Character, Register}
-use Rattle.texml_expand.specs.Next.{Taken}
+use Rattle.texml_input.specs.Next.{Taken}
 use Rattle.texml_expand.specs.State.{State, room, chain, IsDecided, give, fail}
 use Rattle.texml_expand.specs.Take.{take, means}
 use Rattle.texml_expand.specs.Variables.{variable_at, index_of, key_of, among, a_character, a_register, Internal, Number, internal_in, value_of}

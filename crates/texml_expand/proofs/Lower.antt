@@ -4,8 +4,8 @@ use Rattle.texml_token.specs.Token.{Token}
 use Rattle.texml_text.specs.Lines.{loaded}
 use Rattle.texml_mouth.specs.Mouth.{Spot, Bite, Gives, Dry, Bad, bites}
 use Rattle.texml_mouth.proofs.Falls.{bites_lower}
-use Rattle.texml_expand.specs.Rest.{Item, Tok, Frozen, Text, Place, page, start, page_size, size}
-use Rattle.texml_expand.specs.Next.{Taken, Given, Got, AtEnd, Invalid, behind, from_bite, place_in, text_next, next}
+use Rattle.texml_input.specs.Rest.{Item, Tok, Frozen, Text, Place, page, start, page_size, size}
+use Rattle.texml_input.specs.Next.{Taken, Given, Got, AtEnd, Invalid, behind, from_bite, place_in, text_next, next}
 use Rattle.texml_expand.proofs.Items.{size-cons}
 use Rattle.texml_expand.proofs.Pages.{loaded_lower}
 

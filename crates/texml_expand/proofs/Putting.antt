@@ -3,7 +3,7 @@ use Rattle.std.proofs.Common.{◌≡◌, ◌++◌, List, map, length, ap, ◌∙
 use Rattle.texml_token.specs.declared.tokens.Token.{Token as TokenCode}
 use Rattle.texml_token.specs.Numbers.{tokens_at, TokensWithin}
 use Rattle.texml_token.proofs.Table.{extends_refl}
-use Rattle.texml_expand.specs.Rest.{Tok, HeldRest}
+use Rattle.texml_input.specs.Rest.{Tok, HeldRest}
 use Rattle.texml_expand.specs.Expand.{put}
 use Rattle.texml_expand.specs.Held.{Held, state_of, Sound, Kept}
 use Rattle.texml_expand.proofs.Items.{items_put, within_put}

@@ -6,8 +6,8 @@ use Rattle.texml_token.specs.declared.tokens.Token.{Token as TokenCode}
 use Rattle.texml_token.specs.Numbers.{tokens_at, TokensWithin}
 use Rattle.texml_watch.specs.declared.record.Record.{Record}
 use Rattle.texml_expand.specs.declared.stop.Stop.{Stop}
-use Rattle.texml_expand.specs.Rest.{Tok}
-use Rattle.texml_expand.specs.Next.{Taken}
+use Rattle.texml_input.specs.Rest.{Tok}
+use Rattle.texml_input.specs.Next.{Taken}
 use Rattle.texml_expand.specs.State.{State, nothing, Done}
 use Rattle.texml_expand.specs.declared.variables.Index.{Index}
 use Rattle.texml_expand.specs.Calls.{Expandable}

@@ -2,7 +2,7 @@
 use Rattle.std.proofs.Common.{ℕ, Bool, true, false, if◌then◌else◌, Option, Some, None}
 use Rattle.texml_scope.specs.Texts.{Meaning}
 use Rattle.texml_scope.specs.declared.values.MeaningOf.TheVariants.{Undefined}
-use Rattle.texml_expand.specs.Next.{Taken}
+use Rattle.texml_input.specs.Next.{Taken}
 use Rattle.texml_expand.specs.State.{State, IsDecided, give}
 use Rattle.texml_expand.specs.Take.{take, meaning_of}
 use Rattle.texml_expand.specs.Calls.{Expandable, expandable}

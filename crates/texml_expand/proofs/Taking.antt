@@ -5,12 +5,12 @@ use Rattle.texml_token.specs.Token.{Token}
 use Rattle.texml_token.specs.Numbers.{Table}
 use Rattle.texml_token.specs.declared.fault_code.TheConstants.{INVALID_CHAR}
 use Rattle.texml_scope.specs.Texts.{World}
-use Rattle.texml_expand.specs.Rest.{Item, Place}
-use Rattle.texml_expand.specs.Next.{Taken, next}
+use Rattle.texml_input.specs.Rest.{Item, Place}
+use Rattle.texml_input.specs.Next.{Taken, next}
 use Rattle.texml_expand.specs.Turning.{given_at, IsNext}
-use Rattle.texml_expand.specs.Codes.{cats_of, end_of}
+use Rattle.texml_input.specs.Codes.{cats_of, end_of}
 use Rattle.texml_expand.specs.Held.{read_at}
-use Rattle.texml_expand.specs.declared.rest.Read.{Read}
+use Rattle.texml_input.specs.declared.fault.Read.{Read}
 use Rattle.texml_expand.specs.declared.rest.RestFault.{RestFault}
 use Rattle.texml_expand.specs.declared.rest.RestFault.TheVariants as fault
 use Rattle.texml_expand.specs.declared.stop.Stop.{Stop}

@@ -8,8 +8,8 @@ use Rattle.texml_cond.specs.declared.limits.Word.{Word}
 use Rattle.texml_cond.specs.declared.limits.Word.TheVariants as words
 use Rattle.texml_scan.specs.declared.looks.Look.{Look}
 use Rattle.texml_scan.specs.Grammar.{Remainder}
-use Rattle.texml_expand.specs.Rest.{Item, Tok, Frozen}
-use Rattle.texml_expand.specs.Next.{Taken}
+use Rattle.texml_input.specs.Rest.{Item, Tok, Frozen}
+use Rattle.texml_input.specs.Next.{Taken}
 use Rattle.texml_expand.specs.State.{Reading}
 use Rattle.texml_expand.specs.Branches.{Test, test_at}
 pub use Rattle.texml_expand.specs.declared.gathering.Gathering.{Gathering}

@@ -23,7 +23,7 @@ use Rattle.texml_expand.specs.declared.feeding.Verdict.TheVariants.{TooShort, Yi
 use Rattle.texml_expand.specs.declared.conditional.TheConstants.{NO_CODE, NO_CATEGORY}
 use Rattle.texml_expand.specs.declared.conditional.Face.{Face}
 use Rattle.texml_expand.specs.declared.gathering.Gathering.TheVariants.{Relation}
-use Rattle.texml_expand.specs.Next.{Taken}
+use Rattle.texml_input.specs.Next.{Taken}
 use Rattle.texml_expand.specs.State.{State, room, nothing, Done, Reading, ◌>>=◌, ◌>>◌, give, fail, change}
 use Rattle.texml_expand.specs.Take.{meaning_of, means}
 use Rattle.texml_expand.specs.Least.{by_least}

@@ -4,7 +4,7 @@ use Rattle.texml_token.specs.Token.{Token}
 use Rattle.texml_token.specs.declared.fault_code.TheConstants.{UNDEFINED}
 use Rattle.texml_scope.specs.Texts.{Meaning}
 use Rattle.texml_scope.specs.declared.values.MeaningOf.TheVariants.{Undefined}
-use Rattle.texml_expand.specs.Next.{Taken}
+use Rattle.texml_input.specs.Next.{Taken}
 use Rattle.texml_expand.specs.State.{Reading, ◌>>=◌, give, fail}
 use Rattle.texml_expand.specs.Take.{take, meaning_of, spelling}
 use Rattle.texml_expand.specs.Calls.{Expandable, expandable}

@@ -9,8 +9,8 @@ use Rattle.texml_scope.specs.declared.builtins.TheConstants.{ENDCSNAME}
 use Rattle.texml_expand.specs.declared.feeding.Verdict.{Verdict}
 use Rattle.texml_expand.specs.declared.feeding.Verdict.TheVariants.{TooShort, Yields, Refuses}
 use Rattle.texml_expand.specs.declared.gathering.Gathering.TheVariants.{Name, Relation, Group}
-use Rattle.texml_expand.specs.Rest.{Tok}
-use Rattle.texml_expand.specs.Next.{Taken}
+use Rattle.texml_input.specs.Rest.{Tok}
+use Rattle.texml_input.specs.Next.{Taken}
 use Rattle.texml_expand.specs.State.{Reading, ◌>>=◌, ◌>>◌, give, fail, change, tell}
 use Rattle.texml_expand.specs.Take.{means}
 use Rattle.texml_expand.specs.Arguments.{is_space, is_sign}

@@ -1,6 +1,3 @@
-pub mod Rest
-pub mod Next
-pub mod Codes
 pub mod State
 pub mod Take
 pub mod Least
@@ -24,8 +21,6 @@ pub mod Contract
 pub mod Hearing
 pub mod Laws
 pub mod Lending
-pub mod Sources
-pub mod Turning
 pub mod Fronts
 pub mod Filling
 pub mod Doing
@@ -33,3 +28,4 @@ pub mod VariableCodes
 pub mod Machine
 pub mod Scanning
 pub mod Feeding
+pub mod Matched

@@ -23,7 +23,7 @@ use Rattle.texml_scan.specs.Keyword.{keyword}
 use Rattle.texml_expand.specs.declared.variables.Variable.{Variable}
 use Rattle.texml_expand.specs.declared.variables.Index.{Index}
 use Rattle.texml_expand.specs.declared.variables.Index.TheVariants.{Alone, Character, Register}
-use Rattle.texml_expand.specs.Next.{Taken}
+use Rattle.texml_input.specs.Next.{Taken}
 use Rattle.texml_expand.specs.State.{State, Reading, ◌>>=◌, ◌>>◌, give, fail, change}
 use Rattle.texml_expand.specs.Take.{take, put, meaning_of, means}
 use Rattle.texml_expand.specs.Printed.{printed_tokens, printed_dimension, printed_glue}

@@ -31,4 +31,11 @@ impl Main {
     {
         Main { name }
     }
+
+    /// Its bytes.
+    pub(crate) fn as_slice(&self) -> &[u8]
+        ensures { result.now ≡ self.now }
+    {
+        self.name.as_slice()
+    }
 }
