@@ -247,8 +247,9 @@ plain_by_least decide = record {
       unlimited_chain (next_tokens k s) (λ list. decided (decide list)) (tokens_unlimited k s) (λ list t. verdict_unlimited (decide list) t);
 }
 
-pub plain_absorb : Plain absorb
-plain_absorb = plain_by_least absorbed
+pub lawful_absorb : (expanding : Bool) → Lawful (absorb expanding)
+lawful_absorb false = lawful_plain (by_least absorbed) (plain_by_least absorbed)
+lawful_absorb true = lawful_plain (by_least absorbed) (plain_by_least absorbed)
 
 abbrev pub text_taken : Unit {0} → Reading (Head Token)
 text_taken x = by_least text_of
@@ -263,18 +264,24 @@ plain_needed_body (Some body) = plain_give body
 pub plain_body_said : (slots : ℕ) (list : List Token) → Plain (body_said slots list)
 plain_body_said slots list = plain_needed_body (body_of slots list)
 
-pub plain_next_body : (slots : ℕ) → Plain (next_body slots)
-plain_next_body slots = plain_then absorb (body_said slots) plain_absorb (plain_body_said slots)
+pub lawful_body_said : (slots : ℕ) (list : List Token) → Lawful (λ n. body_said slots list)
+lawful_body_said slots list = lawful_plain (body_said slots list) (plain_body_said slots list)
+
+pub lawful_next_body : (expanding : Bool) (slots : ℕ) → Lawful (next_body expanding slots)
+lawful_next_body expanding slots = lawful_then (absorb expanding) (λ list n. body_said slots list) (lawful_absorb expanding) (lawful_body_said slots)
 
 -- what follows a body, and what follows a parameter text
 abbrev pub body_taken : Bool → Head Token → List Token → Reading Meaning
 body_taken long h body = give (Macro (macro_of long h body))
 
-abbrev pub head_taken : Bool → Head Token → Reading Meaning
-head_taken long h s = chain (next_body h.slots s) (body_taken long h)
+pub lawful_body_taken : (long : Bool) (h : Head Token) (body : List Token) → Lawful (λ n. body_taken long h body)
+lawful_body_taken long h body = lawful_plain (body_taken long h body) (plain_give _)
 
-pub plain_head_taken : (long : Bool) (h : Head Token) → Plain (head_taken long h)
-plain_head_taken long h = plain_then (next_body h.slots) (body_taken long h) (plain_next_body h.slots) (λ body. plain_give _)
+abbrev pub head_taken : Bool → Bool → Head Token → ByDepth Meaning
+head_taken expanding long h n s = chain (next_body expanding h.slots n s) (body_taken long h)
 
-pub plain_defined : (long : Bool) → Plain (defined long)
-plain_defined long = plain_then parameter_text (head_taken long) plain_parameter_text (plain_head_taken long)
+pub lawful_head_taken : (expanding long : Bool) (h : Head Token) → Lawful (head_taken expanding long h)
+lawful_head_taken expanding long h = lawful_then (next_body expanding h.slots) (λ body n. body_taken long h body) (lawful_next_body expanding h.slots) (lawful_body_taken long h)
+
+pub lawful_defined : (expanding long : Bool) → Lawful (defined expanding long)
+lawful_defined expanding long = lawful_then (λ n. parameter_text) (head_taken expanding long) (lawful_plain parameter_text plain_parameter_text) (lawful_head_taken expanding long)

@@ -41,3 +41,14 @@ abbrev pub optional_equals : ByDepth (Unit {0})
 optional_equals n = do
   o ← first_behind Spaces n
   past_equals o
+
+-- a token that was looked at, if there is one, goes back, and may be expanded from then on
+abbrev pub put_looked : Option Looked → Reading (Unit {0})
+put_looked None = give tt
+put_looked (Some x) = change (back x.token false)
+
+-- spaces go, and the token behind them comes next
+abbrev pub ignore_spaces : ByDepth (Unit {0})
+ignore_spaces n = do
+  o ← first_behind Spaces n
+  put_looked o

@@ -259,8 +259,13 @@ fn list_by<F: Files, T: Teller>(
     list_from(engine, files, tell, start)
 }
 
-// Where a list comes from, by the token that begins it.
-fn list_start(engine: &mut Engine, first: Option<Looked>) -> Result<ListStart, Stop>
+/// Where a list comes from, by the token that begins it.
+///
+/// # Errors
+///
+/// `Tex` with fault 4 where no token comes, and with fault 22 where one comes that begins no list. `NoMemory` where memory was
+/// refused.
+pub fn list_start(engine: &mut Engine, first: Option<Looked>) -> Result<ListStart, Stop>
     requires running { engine.old.stop ≡ None }
     requires sound { Sound engine.old }
     requires first { OptionWithin (LookedWithin (length engine.old.names)) first }
@@ -353,13 +358,13 @@ fn absorbed_list<F: Files, T: Teller>(
 ) -> Result<Value, Stop>
     requires running { engine.old.stop ≡ None }
     requires sound { Sound engine.old }
-    ensures does { Does (hears T.wanting T.heard) (hears_part T.wanting T.part) (λ n. spec_absorbed_list) (ok_at (value_at engine.new.names) result) engine.old engine.new
+    ensures does { Does (hears T.wanting T.heard) (hears_part T.wanting T.part) spec_absorbed_list (ok_at (value_at engine.new.names) result) engine.old engine.new
         (outside (F.faults files.old) (T.faults tell.old)) (outside (F.faults files.new) (T.faults tell.new)) tell.old tell.new }
     ensures kind { IfOk result IsList }
     ensures within { IfOk result (ValueWithin (length engine.new.names)) }
     ensures files { files.new ≡ files.old }
 {
-    let list = engine.absorb(files, tell)?;
+    let list = engine.absorb(files, tell, false)?;
     Ok(Value::List(list))
 }
 

@@ -22,7 +22,7 @@ use texml_scope::{Macro, Meaning};
 use texml_token::{Params, Tokens, fault_code};
 use texml_watch::Teller;
 
-/// Reads a definition and makes it: a name, and the macro that it means from now on.
+/// Reads a definition and makes it: a name, and the macro that it means from now on, whose body is expanded or not.
 ///
 /// # Errors
 ///
@@ -33,16 +33,17 @@ pub fn define<F: Files, T: Teller>(
     files: &mut F,
     tell: &mut T,
     global: bool,
+    expanding: bool,
     long: bool,
 ) -> Result<(), Stop>
     requires running { engine.old.stop ≡ None }
     requires sound { Sound engine.old }
-    ensures does { Does (hears T.wanting T.heard) (hears_part T.wanting T.part) (assigned global (λ n. spec_defined long)) result engine.old engine.new
+    ensures does { Does (hears T.wanting T.heard) (hears_part T.wanting T.part) (assigned global (spec_defined expanding long)) result engine.old engine.new
         (outside (F.faults files.old) (T.faults tell.old)) (outside (F.faults files.new) (T.faults tell.new)) tell.old tell.new }
     ensures files { files.new ≡ files.old }
 {
     let key = next_key(engine, files, tell)?;
-    let meaning = defined(alloc, engine, files, tell, long)?;
+    let meaning = defined(alloc, engine, files, tell, expanding, long)?;
     assign(engine, global, key, meaning)
 }
 
@@ -68,23 +69,24 @@ pub fn let_to<F: Files, T: Teller>(
     assign(engine, global, key, meaning)
 }
 
-// The macro that a definition gives: a parameter text, and a body in braces.
+// The macro that a definition gives: a parameter text, and a body in braces, which is expanded or not.
 fn defined<F: Files, T: Teller>(
     alloc: Global,
     engine: &mut Engine,
     files: &mut F,
     tell: &mut T,
+    expanding: bool,
     long: bool,
 ) -> Result<Meaning, Stop>
     requires running { engine.old.stop ≡ None }
     requires sound { Sound engine.old }
-    ensures does { Does (hears T.wanting T.heard) (hears_part T.wanting T.part) (λ n. spec_defined long) (ok_at (meaning_at engine.new.names) result) engine.old engine.new
+    ensures does { Does (hears T.wanting T.heard) (hears_part T.wanting T.part) (spec_defined expanding long) (ok_at (meaning_at engine.new.names) result) engine.old engine.new
         (outside (F.faults files.old) (T.faults tell.old)) (outside (F.faults files.new) (T.faults tell.new)) tell.old tell.new }
     ensures within { IfOk result (MeaningWithin (length engine.new.names)) }
     ensures files { files.new ≡ files.old }
 {
     let head = parameter_text(alloc, engine, files, tell)?;
-    let body = next_body(alloc, engine, files, tell, head.slots)?;
+    let body = next_body(alloc, engine, files, tell, expanding, head.slots)?;
     match macro_of(long, head, body) {
         Ok(made) => Ok(Meaning::Macro(made)),
         Err(_) => Err(engine.no_memory()),
@@ -110,22 +112,23 @@ fn parameter_text<F: Files, T: Teller>(
     engine.read_by(files, tell, &mut text)
 }
 
-// The body that comes next of a macro with so many parameters, with the brace behind it.
+// The body that comes next of a macro with so many parameters, with the brace behind it; it is expanded or not.
 fn next_body<F: Files, T: Teller>(
     alloc: Global,
     engine: &mut Engine,
     files: &mut F,
     tell: &mut T,
+    expanding: bool,
     slots: u8,
 ) -> Result<Tokens, Stop>
     requires running { engine.old.stop ≡ None }
     requires sound { Sound engine.old }
-    ensures does { Does (hears T.wanting T.heard) (hears_part T.wanting T.part) (λ n. spec_next_body slots) (ok_at (tokens_at engine.new.names) result) engine.old engine.new
+    ensures does { Does (hears T.wanting T.heard) (hears_part T.wanting T.part) (spec_next_body expanding slots) (ok_at (tokens_at engine.new.names) result) engine.old engine.new
         (outside (F.faults files.old) (T.faults tell.old)) (outside (F.faults files.new) (T.faults tell.new)) tell.old tell.new }
     ensures within { IfOk result (BodyWithin (length engine.new.names) slots) }
     ensures files { files.new ≡ files.old }
 {
-    let list = engine.absorb(files, tell)?;
+    let list = engine.absorb(files, tell, expanding)?;
     body_said(alloc, engine, slots, &list)
 }
 

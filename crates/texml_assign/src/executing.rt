@@ -18,7 +18,10 @@ ghost use Rattle.texml_assign.specs.Behind.{turn_of};
 use crate::arithmetic::arithmetic;
 use crate::assignments::assignment;
 use crate::define::{define, let_to};
+use crate::fillers::ignore_spaces;
+use crate::letters::change_case;
 use crate::new_command::new_command;
+use crate::new_if::new_if;
 use crate::operands::next_token;
 use crate::sets::{begin_group, end_group, put_kept, read_after};
 use crate::short_names::short_name;
@@ -212,11 +215,19 @@ fn row<F: Files, T: Teller>(
     match command {
         Command::Relax => Ok(()),
         Command::Def => {
-            define(alloc, engine, files, tell, prefixes.global, prefixes.long)?;
+            define(alloc, engine, files, tell, prefixes.global, false, prefixes.long)?;
             Ok(())
         }
         Command::Gdef => {
-            define(alloc, engine, files, tell, true, prefixes.long)?;
+            define(alloc, engine, files, tell, true, false, prefixes.long)?;
+            Ok(())
+        }
+        Command::Edef => {
+            define(alloc, engine, files, tell, prefixes.global, true, prefixes.long)?;
+            Ok(())
+        }
+        Command::Xdef => {
+            define(alloc, engine, files, tell, true, true, prefixes.long)?;
             Ok(())
         }
         Command::Let => {
@@ -241,6 +252,18 @@ fn row<F: Files, T: Teller>(
         }
         Command::NewCommand(naming) => {
             new_command(alloc, engine, files, tell, naming)?;
+            Ok(())
+        }
+        Command::NewIf => {
+            new_if(alloc, engine, files, tell)?;
+            Ok(())
+        }
+        Command::ChangeCase(case) => {
+            change_case(alloc, engine, files, tell, case)?;
+            Ok(())
+        }
+        Command::IgnoreSpaces => {
+            ignore_spaces(engine, files, tell)?;
             Ok(())
         }
         Command::Assign(target) => {

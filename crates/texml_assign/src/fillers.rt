@@ -10,7 +10,7 @@ ghost use Rattle.texml_expand.specs.Held.{state_of, Sound, Kept, ok_at};
 ghost use Rattle.texml_expand.specs.Fronts.{looked_at, LookedWithin};
 ghost use Rattle.texml_assign.specs.Advance.{Advances};
 ghost use Rattle.texml_assign.specs.Doing.{Does};
-ghost use Rattle.texml_assign.specs.Fillers.{is_relax as spec_is_relax, fills as spec_fills, first_behind as spec_first_behind, past_equals as spec_past_equals, optional_equals as spec_optional_equals};
+ghost use Rattle.texml_assign.specs.Fillers.{is_relax as spec_is_relax, fills as spec_fills, first_behind as spec_first_behind, past_equals as spec_past_equals, optional_equals as spec_optional_equals, put_looked as spec_put_looked, ignore_spaces as spec_ignore_spaces};
 
 use crate::operands::is_equals;
 use crate::sets::put_back;
@@ -137,4 +137,41 @@ fn past_equals(engine: &mut Engine, first: Option<Looked>) -> Result<(), Stop>
         return Ok(());
     }
     put_back(engine, looked.token)
+}
+
+/// Passes over spaces. Tokens are expanded as they are looked at, and the one behind the spaces goes back, from then on not kept
+/// from being expanded (The TeXbook, chapter 24).
+///
+/// # Errors
+///
+/// The stops of the engine.
+pub fn ignore_spaces<F: Files, T: Teller>(
+    engine: &mut Engine,
+    files: &mut F,
+    tell: &mut T,
+) -> Result<(), Stop>
+    requires running { engine.old.stop ≡ None }
+    requires sound { Sound engine.old }
+    ensures does { Does (hears T.wanting T.heard) (hears_part T.wanting T.part) spec_ignore_spaces result engine.old engine.new
+        (outside (F.faults files.old) (T.faults tell.old)) (outside (F.faults files.new) (T.faults tell.new)) tell.old tell.new }
+    ensures files { files.new ≡ files.old }
+{
+    let first = first_behind(engine, files, tell, Filler::Spaces)?;
+    put_looked(engine, first)
+}
+
+// Puts a token that was looked at back, if there is one.
+fn put_looked(engine: &mut Engine, looked: Option<Looked>) -> Result<(), Stop>
+    requires running { engine.old.stop ≡ None }
+    requires sound { Sound engine.old }
+    requires looked { OptionWithin (LookedWithin (length engine.old.names)) looked }
+    ensures is { Silent (spec_put_looked (option_map (looked_at engine.old.names) looked) (state_of engine.old)) result (state_of engine.new) }
+    ensures kept { engine.new.stop ≡ stop_after result }
+    ensures keeps { OnOk result (Kept engine.old engine.new) }
+    ensures advances { Advances engine.old engine.new }
+{
+    match looked {
+        Some(looked) => put_back(engine, looked.token),
+        None => Ok(()),
+    }
 }
