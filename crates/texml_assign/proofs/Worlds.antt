@@ -2,7 +2,7 @@
 use Rattle.std.proofs.Common.{◌≡◌, ℕ, [], arith, Bool, true, false, List, length, Option, None, Some, option_map, Result, Ok, Err, refl, sym, ap, ◌∙◌, subst}
 use Rattle.std.specs.Result.{MatchResult, OnOk}
 use Rattle.texml_base.specs.Rising.{add_up}
-use Rattle.texml_token.specs.Numbers.{Table, Extends, token_at, tokens_at, TokenWithin, TokensWithin, OptionWithin}
+use Rattle.texml_token.specs.Numbers.{Table, Extends, Numbered, token_at, tokens_at, TokenWithin, TokensWithin, OptionWithin}
 use Rattle.texml_token.specs.declared.tokens.Token.{Token as TokenCode}
 use Rattle.texml_token.proofs.Table.{extends_refl}
 use Rattle.texml_scope.specs.declared.values.KeyOf.TheVariants as keys
@@ -11,7 +11,7 @@ use Rattle.texml_scope.specs.Groups.{EndFault, fault_at, begin_group, keep_after
 use Rattle.texml_scope.specs.Values.{same_kind}
 use Rattle.texml_scope.specs.Shown.{Shown, KeyCode, ValueCode, world_of}
 use Rattle.texml_scope.specs.Numbers.{KindCode, world_at, answer_at, key_at, key_back, value_at, kind_at, KeyWithin, KindWithin, ValueWithin, WorldCovered}
-use Rattle.texml_scope.proofs.Texts.{world_set_local, world_set_global, world_begin, world_keep_after, world_end}
+use Rattle.texml_scope.proofs.Texts.{world_stays, world_set_local, world_set_global, world_begin, world_keep_after, world_end}
 use Rattle.texml_scope.proofs.Covering.{set_local_covered, set_global_covered, begin_covered, keep_after_covered, end_covered}
 use Rattle.texml_expand.specs.declared.stop.Stop.{Stop}
 use Rattle.texml_expand.specs.declared.stop.Stop.TheVariants as stop
@@ -21,6 +21,8 @@ use Rattle.texml_expand.specs.Expand.{back, put}
 use Rattle.texml_expand.specs.Held.{Held, state_of, Sound, Kept}
 use Rattle.texml_expand.specs.Contract.{IsFaultAt, Silent}
 use Rattle.texml_expand.proofs.Taking.{silent_fault}
+use Rattle.texml_expand.proofs.Items.{items_grown, within_more}
+use Rattle.texml_expand.proofs.Fronts.{kept_same, taken_kept}
 use Rattle.texml_assign.specs.Sets.{set, begin_kind, end_code, ended, end_kind, read_after, put_kept_of, put_kept}
 use Rattle.texml_assign.specs.Advance.{Advances}
 use Rattle.texml_assign.proofs.Doing.{advances_then, advances_stopped}
@@ -44,6 +46,20 @@ advances_stops h mid new scope more s e f = advances_then h mid new (advances_wr
 pub advances_put : (h new : Held) (r : Result (Unit {0}) Stop) (P : Type 0) → MatchResult r (λ _. P) (λ s. (s ≡ stop.NoMemory) × (new ≡ record h { stop = Some stop.NoMemory })) → OnOk r (new ≡ record h { items = new.items }) → Advances h new
 advances_put h new (Ok v) P m e = subst (Advances h) (sym e) (record { names = extends_refl h.names; begun = omega arith; limit = refl; writes = omega arith })
 advances_put h new (Err s) P m e = advances_stopped h new (Some stop.NoMemory) m.1
+
+-- names are added
+pub names_state : (h : Held) (names : Table) → Sound h → Extends h.names names → state_of (record h { names = names }) ≡ state_of h
+names_state h names s g = λ i. record (state_of h) {
+  world = world_stays h.names names g (world_of h.scope) s.scope i;
+  rest = items_grown h.names names g h.items s.items i;
+  kept = kept_same h.names names h.kept g s.kept i;
+}
+
+pub names_kept : (h : Held) (names : Table) → Sound h → Extends h.names names → Numbered names → Kept h (record h { names = names })
+names_kept h names s g numbered = taken_kept h names h.items h.place s g numbered (within_more (length h.names) (length names) g.longer h.items s.items)
+
+pub advances_names : (h new : Held) (names : Table) (s : Option Stop) → Extends h.names names → new ≡ record h { names = names; stop = s } → Advances h new
+advances_names h new names s g e = subst (Advances h) (sym e) (record { names = g; begun = omega arith; limit = refl; writes = omega arith })
 
 -- the world changes, and its names are given
 pub scope_kept : (h new : Held) (scope : Shown) (writes : ℕ) → Sound h → WorldCovered (length h.names) (world_of scope) → new ≡ record h { scope = scope; writes = writes } → Kept h new
