@@ -133,6 +133,12 @@ pub back_state : (h new : Held) (t : TokenCode) (r : Result (Unit {0}) Stop) (P 
 back_state h new t (Ok v) P m = ap (λ s. Done tt s nothing) (sym m)
 back_state h new t (Err s) P m = subst (λ x. Silent (change (back (token_at h.names t) false) (state_of h)) (Err x) (state_of new)) (sym m.0) tt
 
+-- tokens come next
+pub put_state : (h new : Held) (list : List TokenCode) (f : State → State) (r : Result (Unit {0}) Stop) (P : Type 0) → put (tokens_at h.names list) (state_of h) ≡ f (state_of h)
+    → MatchResult r (λ _. state_of new ≡ put (tokens_at h.names list) (state_of h)) (λ s. (s ≡ stop.NoMemory) × P) → Silent (change f (state_of h)) r (state_of new)
+put_state h new list f (Ok v) P e m = ap (λ s. Done tt s nothing) (sym (m ∙ e))
+put_state h new list f (Err s) P e m = subst (λ x. Silent (change f (state_of h)) (Err x) (state_of new)) (sym m.0) tt
+
 -- the kept token comes next
 pub kept_none : (h : Held) → h.kept ≡ None → change put_kept (state_of h) ≡ Done tt (state_of h) nothing
 kept_none h e = ap (λ o. Done tt (put_kept_of (option_map (token_at h.names) o) (state_of h)) nothing) e

@@ -1,0 +1,19 @@
+use Rattle.std.proofs.Common.{◌<◌, ◌≤◌, length}
+use Rattle.std.proofs.lemmas.List.Elements.{All-push}
+use Rattle.texml_token.specs.Numbers.{TokenWithin, TokensWithin}
+use Rattle.texml_expand.specs.Held.{state_of}
+use Rattle.texml_assign.specs.Letters.{token_in}
+use Rattle.texml_assign.proofs.Letters.{changed_more, changed_all}
+use Rattle.texml_assign.proofs.letters.tokens_in.Goals as goal
+
+pub loop-token-preserved : goal.loop-token-preserved
+loop-token-preserved c =
+    let l = c.loop-token in let h = c.args.engine.now in
+    let lt : l.token-index < length c.args.list.now = rw c.as_slice-token-items.ensures at c.loop-token-test.true in
+    ?
+
+pub returns-clause-are : goal.returns-clause-are
+returns-clause-are c =
+    let l = c.loop-token in let h = c.args.engine.now in
+    let le : length c.args.list.now ≤ l.token-index = rw c.as_slice-token-items.ensures at c.loop-token-test.false in
+    changed_all h.names (token_in c.args.case (state_of h).world) c.args.list.now l.changed l.token-index le l.invariant.are
