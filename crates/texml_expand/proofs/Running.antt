@@ -120,6 +120,16 @@ runs_then v r old mid new f g h d e = record {
 pub runs_stop : {A B : Type 0} (e : Stop) (old new : Held) (f g : Outside) → Runs {A = A} (Err e) old new f g → Runs {A = B} (Err e) old new f g
 runs_stop {A = A} {B = B} e old new f g d = record { stops = stops_as A B e f g new.stop d.stops; limit = limit_as A B e new d.limit; keeps = tt; progress = d.progress; holds = d.holds }
 
+-- the value doesn't matter
+pub runs_as : {A B : Type 0} (v : A) (w : B) (old new : Held) (f g : Outside) → Runs (Ok v) old new f g → Runs (Ok w) old new f g
+runs_as v w old new f g d = record {
+  stops = record { kept = d.stops.kept; reads = d.stops.reads; tells = d.stops.tells; loan = d.stops.loan };
+  limit = tt;
+  keeps = d.keeps;
+  progress = d.progress;
+  holds = d.holds;
+}
+
 -- a call that takes no files
 pub runs_local : {A : Type 0} (r : Result A Stop) (old new : Held) (f : Outside) → new.stop ≡ stop_after r → NothingFails r → IsAtLimit r new → OnOk r (Kept old new) → Progress old new → SameFiles old new → Owns f.shelf old
     → Runs r old new f f
@@ -153,8 +163,8 @@ runs_fault {A = A} code about e old new f fault is owns =
     runs_local (Err e) old new f (ap (λ (h : Held). h.stop) is) (fault_fine A code about old e fault) (fault_limit A code about old new e fault) tt (progress_stopped old new e is) (files_stopped old new e is) owns
 
 pub runs_out : {A : Type 0} (e : Stop) (old new : Held) (f : Outside) → e ≡ stop.NoMemory → new ≡ record old { stop = Some stop.NoMemory } → Owns f.shelf old → Runs {A = A} (Err e) old new f f
-runs_out {A = A} e old new f no is owns =
-    subst (λ (s : Stop). Runs {A = A} (Err s) old new f f) (sym no)
+runs_out {A = A} e old new f short is owns =
+    subst (λ (s : Stop). Runs {A = A} (Err s) old new f f) (sym short)
     (runs_local (Err stop.NoMemory) old new f (ap (λ (h : Held). h.stop) is) tt tt tt (progress_stopped old new stop.NoMemory is) (files_stopped old new stop.NoMemory is) owns)
 
 -- a call that tells nobody, where somebody is told

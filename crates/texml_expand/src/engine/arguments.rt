@@ -14,7 +14,7 @@ ghost use Rattle.texml_expand.specs.Arguments.{fault_number, read_by, is_sign as
 ghost use Rattle.texml_expand.specs.Arguments.{means_space as spec_means_space, is_space as spec_is_space, behind_spaces as spec_behind_spaces, first_argument as spec_first_argument};
 ghost use Rattle.texml_expand.specs.Arguments.{macro_arguments as spec_macro_arguments, called as spec_called, read_argument as spec_read_argument, read_optional as spec_read_optional};
 ghost use Rattle.texml_expand.specs.Fronts.{macro_at};
-ghost use Rattle.texml_expand.specs.Matched.{Matched};
+ghost use Rattle.texml_expand.specs.Matched.{MatchedBy};
 ghost use Rattle.texml_expand.specs.Held.{state_of, world_in, Sound, Kept, Progress, IsAtLimit, ok_at, read_at, ReadWithin, Owns, Holding, SameFiles, Shrinks, Puts};
 ghost use Rattle.texml_expand.specs.Contract.{Local, Reads, AnswersKept, Stops, outside, files_at, stop_after};
 ghost use Rattle.texml_expand.specs.Doing.{Gets, Runs};
@@ -279,7 +279,7 @@ impl Engine {
         requires shape { ShapeWithin (length self.old.names) shape.now }
         requires some { is_empty shape.now ≡ false }
         ensures gets { Gets (read_by (reading (shape_at self.old.names shape.now))) (ok_at (map (tokens_at self.new.names)) result) self.old self.new (files_at (F.shelf files.old) (F.faults files.old)) (files_at (F.shelf files.new) (F.faults files.new)) }
-        ensures lower { IfOk result (λ args. Matched shape.now args (F.shelf files.old) self.old (F.shelf files.new) self.new) }
+        ensures lower { IfOk result (λ args. MatchedBy shape.now args (F.shelf files.old) self.old (F.shelf files.new) self.new) }
         ensures within { IfOk result (All (TokensWithin (length self.new.names))) }
     {
         let mut matcher = ArgMatch::new(self.alloc);
@@ -417,6 +417,7 @@ impl Engine {
         requires owns { Owns (F.shelf files.old) self.old }
         ensures gets { Gets spec_inner_token (ok_at (token_at self.new.names) result) self.old self.new (files_at (F.shelf files.old) (F.faults files.old)) (files_at (F.shelf files.new) (F.faults files.new)) }
         ensures lower { OnOk result (Shrinks 1 (F.shelf files.old) self.old (F.shelf files.new) self.new) }
+        ensures begun { self.new.begun ≡ self.old.begun }
         ensures within { IfOk result (TokenWithin (length self.new.names)) }
     {
         match self.take_front(files)? {
