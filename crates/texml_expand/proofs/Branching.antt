@@ -1,5 +1,5 @@
 -- Skipped text, and what conditionals and their words do: these decide, and leave less to be read.
-use Rattle.std.proofs.Common.{◌≡◌, ◌+◌, ◌-◌, ℕ, ℤ, zero, suc, Bool, true, false, nat_le, if◌then◌else◌, List, [], ◌∷◌, length, map, Option, refl, arith}
+use Rattle.std.proofs.Common.{◌≡◌, ◌==◌, ◌+◌, ◌-◌, ℕ, ℤ, zero, suc, Bool, true, false, nat_le, if◌then◌else◌, List, [], ◌∷◌, length, map, Option, refl, arith}
 use Rattle.texml_token.specs.Token.{Token, Fixed}
 use Rattle.texml_token.specs.declared.fault_code.TheConstants.{FILE_ENDED, EXTRA_COND}
 use Rattle.texml_cond.specs.declared.limits.Bound.{Bound}
@@ -20,7 +20,7 @@ use Rattle.texml_expand.specs.Calls.{Gift, Puts, Calls}
 use Rattle.texml_expand.specs.Quantities.{int_text, dimension_text, needed}
 use Rattle.texml_input.specs.Next.{Taken}
 use Rattle.texml_expand.specs.Expansion.{one_token}
-use Rattle.texml_expand.specs.Conditionals.{open_test, bounded, closed, face, face_now, next_face, of_faces, same_code, same_category, same_meaning, same_meanings, compares, first_code, compared, number, dimension, is_odd, odd, chooses, tested, reached, skipped, met_own, met_inner, met_word, seek_past, seek, chosen, none, conditional, to_end, word_comes, word_by, part_end}
+use Rattle.texml_expand.specs.Conditionals.{open_test, bounded, closed, face, face_now, next_face, two_faces, same_meaning, same_meanings, compares, first_code, number, amount, relation, compared, is_odd, tested, reached, skipped, met_own, met_inner, met_word, seek_past, seek, chosen, none, conditional, to_end, word_comes, word_by, part_end}
 use Rattle.texml_expand.specs.Contract.{Lower}
 use Rattle.texml_expand.proofs.Leading.{Leads, leads_chain, leads_weaker, lower_none, lower_then, lower_less}
 use Rattle.texml_expand.proofs.Deciding.{chain_decided, any}
@@ -87,23 +87,26 @@ lawful_seek at sought = lawful_by room (λ n c. seek_past n at sought) (λ n. la
 
 -- Tests
 
-lawful_face_now : (t : Taken) → Lawful (λ c. face_now t)
+pub lawful_face_now : (t : Taken) → Lawful (λ c. face_now t)
 lawful_face_now t = lawful_by (λ s. face s.world t) (λ f c. give f) lawful_give
 
-abbrev face_behind : Option Taken → By Face
+abbrev pub face_behind : Option Taken → By Face
 face_behind o c s = chain (needed o s) face_now
 
-lawful_face_behind : (o : Option Taken) → Lawful (face_behind o)
+pub lawful_face_behind : (o : Option Taken) → Lawful (face_behind o)
 lawful_face_behind o = lawful_then (λ c. needed o) (λ t c. face_now t) (lawful_needed o) lawful_face_now
 
 pub lawful_next_face : Lawful next_face
 lawful_next_face = lawful_then (λ c. c.fetch) face_behind lawful_fetch lawful_face_behind
 
-abbrev second_face : (Face → Face → Bool) → Face → By Bool
-second_face holds a c s = chain (next_face c s) (λ b. give (holds a b))
+abbrev pub second_face : Face → By (Face × Face)
+second_face a c s = chain (next_face c s) (λ b. give (a, b))
 
-pub lawful_of_faces : (holds : Face → Face → Bool) → Lawful (λ c. of_faces c holds)
-lawful_of_faces holds = lawful_then next_face (second_face holds) lawful_next_face (λ a. lawful_then next_face (λ b c. give (holds a b)) lawful_next_face (λ b. lawful_give (holds a b)))
+pub lawful_second_face : (a : Face) → Lawful (second_face a)
+lawful_second_face a = lawful_then next_face (λ b c. give (a, b)) lawful_next_face (λ b. lawful_give (a, b))
+
+pub lawful_two_faces : Lawful two_faces
+lawful_two_faces = lawful_then next_face second_face lawful_next_face lawful_second_face
 
 lawful_same_meaning : (a b : Token) → Lawful (λ c. same_meaning a b)
 lawful_same_meaning a b = lawful_by (λ s. meaning_eq (means s.world a) (means s.world b)) (λ e c. give e) lawful_give
@@ -114,35 +117,43 @@ lawful_same_meanings = lawful_then (λ c. one_token) (λ a c s. chain (one_token
 pub lawful_number : Lawful number
 lawful_number = lawful_scan int_text
 
-pub lawful_dimension : Lawful dimension
-lawful_dimension = lawful_then (λ c. c.scan dimension_text []) (λ d c. give d.0) (lawful_scan dimension_text) (λ d. lawful_give d.0)
+pub lawful_amount : (dimensions : Bool) → Lawful (λ c. amount c dimensions)
+lawful_amount false = lawful_number
+lawful_amount true = lawful_then (λ c. c.scan dimension_text []) (λ d c. give d.0) (lawful_scan dimension_text) (λ d. lawful_give d.0)
 
-module _ (amount : By ℤ) (h : Lawful amount) where
-  lawful_third : (a : ℤ) (list : List Token) → Lawful (λ c s. chain (amount c s) (λ b. give (compares (first_code list) a b)))
-  lawful_third a list = lawful_then amount (λ b c. give (compares (first_code list) a b)) h (λ b. lawful_give (compares (first_code list) a b))
+pub lawful_relation : Lawful relation
+lawful_relation = lawful_then (λ c. c.gather Relation []) (λ list c. give (first_code list)) (lawful_gather Relation) (λ list. lawful_give (first_code list))
 
-  lawful_second : (a : ℤ) → Lawful (λ c s. chain (c.gather Relation [] s) (λ list t. chain (amount c t) (λ b. give (compares (first_code list) a b))))
-  lawful_second a = lawful_then (λ c. c.gather Relation []) (λ list c s. chain (amount c s) (λ b. give (compares (first_code list) a b))) (lawful_gather Relation) (lawful_third a)
+-- what follows the first amount, and the relation
+abbrev pub third : Bool → ℤ → ℕ → By Bool
+third dimensions a r c s = chain (amount c dimensions s) (λ b. give (compares r a b))
 
-  pub lawful_compared : Lawful (λ c. compared c amount)
-  lawful_compared = lawful_then amount (λ a c s. chain (c.gather Relation [] s) (λ list t. chain (amount c t) (λ b. give (compares (first_code list) a b)))) h lawful_second
+pub lawful_third : (dimensions : Bool) (a : ℤ) (r : ℕ) → Lawful (third dimensions a r)
+lawful_third dimensions a r = lawful_then (λ c. amount c dimensions) (λ b c. give (compares r a b)) (lawful_amount dimensions) (λ b. lawful_give (compares r a b))
 
-pub lawful_odd : Lawful odd
-lawful_odd = lawful_then number (λ i c. give (is_odd i)) lawful_number (λ i. lawful_give (is_odd i))
+abbrev pub second : Bool → ℤ → By Bool
+second dimensions a c s = chain (relation c s) (λ r. third dimensions a r c)
 
-lawful_chooses : (test : By Bool) → Lawful test → Lawful (λ c. chooses (test c))
-lawful_chooses test h = lawful_then test (λ holds c. give (choose holds)) h (λ holds. lawful_give (choose holds))
+pub lawful_second : (dimensions : Bool) (a : ℤ) → Lawful (second dimensions a)
+lawful_second dimensions a = lawful_then relation (third dimensions a) lawful_relation (lawful_third dimensions a)
+
+pub lawful_compared : (dimensions : Bool) → Lawful (λ c. compared c dimensions)
+lawful_compared dimensions = lawful_then (λ c. amount c dimensions) (second dimensions) (lawful_amount dimensions) (lawful_second dimensions)
+
+-- a choice by a value that is read
+pub lawful_choice : {A : Type 0} (r : By A) (f : A → Choice) → Lawful r → Lawful (λ c s. chain (r c s) (λ v. give (f v)))
+lawful_choice r f h = lawful_then r (λ v c. give (f v)) h (λ v. lawful_give (f v))
 
 pub lawful_tested : (test : Test) → Lawful (λ c. tested c test)
-lawful_tested If = lawful_chooses (λ c. of_faces c same_code) (lawful_of_faces same_code)
-lawful_tested IfCat = lawful_chooses (λ c. of_faces c same_category) (lawful_of_faces same_category)
-lawful_tested IfX = lawful_chooses (λ c. same_meanings) lawful_same_meanings
-lawful_tested IfNum = lawful_chooses (λ c. compared c number) (lawful_compared number lawful_number)
-lawful_tested IfDim = lawful_chooses (λ c. compared c dimension) (lawful_compared dimension lawful_dimension)
-lawful_tested IfOdd = lawful_chooses odd lawful_odd
+lawful_tested If = lawful_choice two_faces (λ p. choose (p.0.code == p.1.code)) lawful_two_faces
+lawful_tested IfCat = lawful_choice two_faces (λ p. choose (p.0.category == p.1.category)) lawful_two_faces
+lawful_tested IfX = lawful_choice (λ c. same_meanings) choose lawful_same_meanings
+lawful_tested IfNum = lawful_choice (λ c. compared c false) choose (lawful_compared false)
+lawful_tested IfDim = lawful_choice (λ c. compared c true) choose (lawful_compared true)
+lawful_tested IfOdd = lawful_choice number (λ i. choose (is_odd i)) lawful_number
 lawful_tested IfTrue = lawful_give (choose true)
 lawful_tested IfFalse = lawful_give (choose false)
-lawful_tested IfCase = lawful_then number (λ i c. give (choose_case i)) lawful_number (λ i. lawful_give (choose_case i))
+lawful_tested IfCase = lawful_choice number choose_case lawful_number
 
 -- What conditionals and their words do
 
@@ -150,16 +161,16 @@ pub lawful_chosen : (at : ℕ) (c : Choice) → Lawful (λ _. chosen at c)
 lawful_chosen at (Comes limit) = lawful_bounded at limit
 lawful_chosen at (Skips sought) = lawful_seek at sought
 
-abbrev choosing : ℕ → Choice → By Gift
+abbrev pub choosing : ℕ → Choice → By Gift
 choosing at choice c s = chain (chosen at choice s) (λ _. give none)
 
-lawful_choosing : (at : ℕ) (choice : Choice) → Lawful (choosing at choice)
+pub lawful_choosing : (at : ℕ) (choice : Choice) → Lawful (choosing at choice)
 lawful_choosing at choice = lawful_then (λ c. chosen at choice) (λ v c. give none) (lawful_chosen at choice) (λ v. lawful_give none)
 
-abbrev testing : Test → ℕ → By Gift
+abbrev pub testing : Test → ℕ → By Gift
 testing test at c s = chain (tested c test s) (λ choice. choosing at choice c)
 
-lawful_testing : (test : Test) (at : ℕ) → Lawful (testing test at)
+pub lawful_testing : (test : Test) (at : ℕ) → Lawful (testing test at)
 lawful_testing test at = lawful_then (λ c. tested c test) (choosing at) (lawful_tested test) (lawful_choosing at)
 
 pub lawful_conditional : (test : Test) → Lawful (λ c. conditional c test)

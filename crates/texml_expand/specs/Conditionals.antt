@@ -71,18 +71,12 @@ next_face calls = do
   t ← needed o
   face_now t
 
--- what holds of the next two
-abbrev pub of_faces : Calls → (Face → Face → Bool) → Reading Bool
-of_faces calls holds = do
+-- those of the next two
+abbrev pub two_faces : Calls → Reading (Face × Face)
+two_faces calls = do
   a ← next_face calls
   b ← next_face calls
-  give (holds a b)
-
-abbrev pub same_code : Face → Face → Bool
-same_code a b = a.code == b.code
-
-abbrev pub same_category : Face → Face → Bool
-same_category a b = a.category == b.category
+  give (a, b)
 
 -- whether two tokens mean the same now
 abbrev pub same_meaning : Token → Token → Reading Bool
@@ -106,43 +100,53 @@ compares relation a b =
     else if relation == 61 then int_eq a b
     else lt_z b a
 
-abbrev pub compared : Calls → (Calls → Reading ℤ) → Reading Bool
-compared calls amount = do
-  a ← amount calls
-  list ← calls.gather Relation []
-  b ← amount calls
-  give (compares (first_code list) a b)
-
 abbrev pub number : Calls → Reading ℤ
 number calls = calls.scan int_text []
 
--- a dimension by its number of sp
-abbrev pub dimension : Calls → Reading ℤ
-dimension calls = do
+-- a number, or a dimension by its number of sp
+abbrev pub amount : Calls → Bool → Reading ℤ
+amount calls false = number calls
+amount calls true = do
   d ← calls.scan dimension_text []
   give d.0
+
+-- the code of the relation that comes next
+abbrev pub relation : Calls → Reading ℕ
+relation calls = do
+  list ← calls.gather Relation []
+  give (first_code list)
+
+-- whether two numbers, or two dimensions, stand in the relation between them
+abbrev pub compared : Calls → Bool → Reading Bool
+compared calls dimensions = do
+  a ← amount calls dimensions
+  r ← relation calls
+  b ← amount calls dimensions
+  give (compares r a b)
 
 abbrev pub is_odd : ℤ → Bool
 is_odd i = unsigned_abs i % 2 == 1
 
-abbrev pub odd : Calls → Reading Bool
-odd calls = do
-  i ← number calls
-  give (is_odd i)
-
-abbrev pub chooses : Reading Bool → Reading Choice
-chooses test = do
-  holds ← test
-  give (choose holds)
-
 -- what a test chooses
 abbrev pub tested : Calls → Test → Reading Choice
-tested calls If = chooses (of_faces calls same_code)
-tested calls IfCat = chooses (of_faces calls same_category)
-tested calls IfX = chooses same_meanings
-tested calls IfNum = chooses (compared calls number)
-tested calls IfDim = chooses (compared calls dimension)
-tested calls IfOdd = chooses (odd calls)
+tested calls If = do
+  p ← two_faces calls
+  give (choose (p.0.code == p.1.code))
+tested calls IfCat = do
+  p ← two_faces calls
+  give (choose (p.0.category == p.1.category))
+tested calls IfX = do
+  same ← same_meanings
+  give (choose same)
+tested calls IfNum = do
+  holds ← compared calls false
+  give (choose holds)
+tested calls IfDim = do
+  holds ← compared calls true
+  give (choose holds)
+tested calls IfOdd = do
+  i ← number calls
+  give (choose (is_odd i))
 tested calls IfTrue = give (choose true)
 tested calls IfFalse = give (choose false)
 tested calls IfCase = do

@@ -411,7 +411,7 @@ impl Engine {
     }
 
     // The next token inside a text, unexpanded: there must be one, and no text may have ended before it.
-    fn inner_token<F: Files>(&mut self, files: &mut F) -> Result<Token, Stop>
+    pub(super) fn inner_token<F: Files>(&mut self, files: &mut F) -> Result<Token, Stop>
         requires running { self.old.stop ≡ None }
         requires sound { Sound self.old }
         requires owns { Owns (F.shelf files.old) self.old }

@@ -13,7 +13,7 @@ ghost use Rattle.texml_expand.specs.State.{tell as spec_tell};
 ghost use Rattle.texml_expand.specs.Calls.{expandable, tokens_of};
 ghost use Rattle.texml_token.specs.Spelling.{shown as shown_text};
 ghost use Rattle.texml_expand.specs.Expand.{front_taken, begin, finish, record_of, level};
-ghost use Rattle.texml_expand.specs.Expand.{front as spec_front, given as spec_given, fetch as spec_fetch, look as spec_look, expand_once as spec_expand_once, read_int as spec_read_int, read_index as spec_read_index};
+ghost use Rattle.texml_expand.specs.Expand.{front as spec_front, given as spec_given, fetch as spec_fetch, look as spec_look, expand_once as spec_expand_once, read_int as spec_read_int, read_dimen as spec_read_dimen, read_index as spec_read_index};
 ghost use Rattle.texml_expand.specs.Quantities.{next_looked, as_it_counts};
 ghost use Rattle.texml_expand.specs.Variables.{variable_at as spec_variable_at};
 ghost use Rattle.texml_expand.specs.Quantities.{the as spec_the, internal as spec_internal, internal_of, look as look_in};
@@ -35,7 +35,8 @@ use crate::variables::{Index, index_of, key_of, variable_at};
 use std::alloc::AllocError;
 use texml_base::{Files, Trouble};
 use texml_input::Read;
-use texml_scan::{Held, IntScan, Look, looked_at};
+use texml_fixed::Scaled;
+use texml_scan::{DimenScan, Held, IntScan, Look, looked_at};
 use texml_cond::Word;
 use texml_scope::builtins::{
     CSNAME, ELSE, EXPANDAFTER, FI, JOBNAME, NOEXPAND, NUMBER, OR, ROMANNUMERAL, STRING, THE,
@@ -51,7 +52,7 @@ const DEEPEST: usize = 400;
 const DEEPEST_QUANTITY: usize = 1000;
 
 // The fixed `\relax`.
-const FIXED: Token = Token::Named(Name(0));
+pub(super) const FIXED: Token = Token::Named(Name(0));
 
 // What can be expanded: the call of a macro, or a builtin.
 #[derive(Drop)]
@@ -253,7 +254,7 @@ impl Engine {
 
     // The next token that isn't expanded.
     #[cycle(expanding)]
-    fn fetch_on<F: Files, T: Teller>(
+    pub(super) fn fetch_on<F: Files, T: Teller>(
         &mut self,
         files: &mut F,
         tell: &mut T,
@@ -461,6 +462,8 @@ impl Engine {
                 let list = self.the(files, tell, deep)?;
                 Ok(Gift::Puts(list))
             }
+            Expandable::Conditional(test) => self.conditional(files, tell, test, deep),
+            Expandable::PartEnd(word) => self.part_end(files, token, word),
             _ => Err(self.no_memory()),
         }
     }
@@ -732,6 +735,27 @@ impl Engine {
             _ => unreachable!(),
         }
     }
+
+    // A dimension.
+    #[cycle(expanding)]
+    pub(super) fn dimension<F: Files, T: Teller>(
+        &mut self,
+        files: &mut F,
+        tell: &mut T,
+        deep: usize,
+    ) -> Result<Scaled, Stop>
+        requires running { self.old.stop ≡ None }
+        requires sound { Sound self.old }
+        requires owns { Owns (F.shelf files.old) self.old }
+        ensures does { Does (hears T.wanting T.heard) (hears_part T.wanting T.part)
+            (spec_read_dimen) (result) self.old self.new (outside (F.shelf files.old) (F.faults files.old) (T.faults tell.old) (T.loan tell.old)) (outside (F.shelf files.new) (F.faults files.new) (T.faults tell.new) (T.loan tell.new)) tell.old tell.new }
+        ensures lower { OnOk result (Shrinks 0 (F.shelf files.old) self.old (F.shelf files.new) self.new) }
+    {
+        match self.scan(files, tell, Machine::Dimen(DimenScan::new()), deep)? {
+            Value::Dimen(value) => Ok(value),
+            _ => unreachable!(),
+        }
+    }
 }
 
 // Whether a token has no meaning, though it is one that may have one.
@@ -776,7 +800,7 @@ fn builtin_at(place: u16) -> Option<Expandable>
 }
 
 // What a token that is kept from being expanded counts as, by its meaning.
-fn frozen_as(token: Token, meaning: Option<Meaning>) -> Token
+pub(super) fn frozen_as(token: Token, meaning: Option<Meaning>) -> Token
     ensures { result ≡ frozen_in token meaning }
 {
     if is_undefined(&meaning) {

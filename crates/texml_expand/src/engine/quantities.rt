@@ -30,7 +30,7 @@ use crate::variables::{Index, LAST_REGISTER, Variable, index_of, key_of};
 use std::alloc::{AllocError, Global};
 use texml_base::Files;
 use texml_fixed::{Glue, Scaled};
-use texml_scan::{DimenScan, GlueScan, KeywordScan, ScanFault};
+use texml_scan::{GlueScan, KeywordScan, ScanFault};
 use texml_scope::{Key, Value as KeyValue};
 use texml_token::{Tokens, fault_code};
 use texml_watch::Teller;
@@ -89,10 +89,7 @@ impl Engine {
         ensures holds { Holding (F.shelf files.old) (F.shelf files.new) self.old self.new }
     {
         self.running()?;
-        match self.scan(files, tell, Machine::Dimen(DimenScan::new()), 0)? {
-            Value::Dimen(value) => Ok(value),
-            _ => unreachable!(),
-        }
+        self.dimension(files, tell, 0)
     }
 
     /// Reads glue, as `read_int` reads a number: signs and an internal glue, or a dimension with what it may stretch and shrink
