@@ -1,48 +1,54 @@
 -- How a run starts on its file.
-use Rattle.std.proofs.Common.{◌≡◌, ℕ, List, [], ◌∷◌, true, false, Some, None, Result, Err, refl}
-use Rattle.std.specs.Str.{chars, is_utf8, IsUtf8}
-use Rattle.std.proofs.lemmas.Str.{IsUtf8-from_is_utf8, is_utf8-from_IsUtf8}
-use Rattle.std.proofs.lemmas.Bool.{false_from_ne_true}
-use Rattle.texml_token.specs.Numbers.{Table}
-use Rattle.texml_token.specs.declared.fault_code.TheConstants.{NOT_UTF8}
-use Rattle.texml_text.specs.Lines.{lines, without_mark}
+use Rattle.std.proofs.Common.{◌≡◌, ◌∙◌, ℕ, List, [], ◌∷◌, IsTrue, Option, Some, None, Result, Ok, Err, refl, sym, ap, subst, ok_or, unwrap_or}
+use Rattle.std.specs.Option.{option_map}
+use Rattle.texml_base.specs.Outside.{Shelf, IsOpened, in_use}
+use Rattle.texml_token.specs.declared.fault_code.TheConstants.{MISSING_FILE}
 use Rattle.texml_scope.specs.Shown.{Shown, world_of}
 use Rattle.texml_scope.specs.Numbers.{world_at}
 use Rattle.texml_scope.specs.Builtins.{first_world}
-use Rattle.texml_expand.specs.Rest.{Place, Text, fresh}
+use Rattle.texml_text.specs.File.{rows}
+use Rattle.texml_input.specs.Rest.{Place, no_place}
+use Rattle.texml_input.specs.Held.{File, fresh_file, ids_of}
+use Rattle.texml_input.specs.Searching.{names_tried, first_there}
 use Rattle.texml_expand.specs.State.{fault_at}
-use Rattle.texml_expand.specs.Held.{Held, state_of}
-use Rattle.texml_top.specs.Outcome.{before, text_of, first_state}
-use Rattle.texml_top.specs.Start.{IsStatusAt, IsFirst, StartsOn}
+use Rattle.texml_expand.specs.Held.{Held, Sound, Owns, state_of, world_in}
+use Rattle.texml_top.specs.Outcome.{before, whole_text, main_text, first_state}
+use Rattle.texml_top.specs.Start.{IsStatusAt, IsEmpty, IsFirst, Starts}
 use Rattle.texml_top.specs.declared.status.Status.{Status}
 use Rattle.texml_top.specs.declared.status.Status.TheVariants as status
 
--- an engine to which a text was pushed stands in its first state
-pub first_is : (made pushed : Held) (names : Table) (scope : Shown) (file name main text : List ℕ) (limit : ℕ)
-    → made ≡ record { names = names; scope = scope; items = []; kept = None; place = record { file = main; line = 0 }; begun = 0; limit = limit; nesting = 0; stop = None; writes = 0 }
-    → pushed ≡ record made { items = Text (fresh name (lines (without_mark text))) ∷ made.items }
-    → world_at names (world_of scope) ≡ first_world → name ≡ file → main ≡ file → state_of pushed ≡ first_state file limit text
-first_is made pushed names scope file name main text limit m p w n f = rw (p, m, w, n, f) refl
+-- an engine with the main file alone in its input
+module _ (old now : Shelf) (name found : List ℕ) (id limit : ℕ) (made started : Held) (empty : IsEmpty name limit made) (opened : IsOpened old now found id)
+  (is : started ≡ record made { input = record made.input { sources = File (fresh_file id found) ∷ made.input.sources } }) where
+  -- what it reads
+  alone : started ≡ record made { input = record { sources = File (fresh_file id found) ∷ []; place = no_place; fault = None } }
+  alone = is ∙ ap (λ i. record made { input = record i { sources = File (fresh_file id found) ∷ i.sources } }) empty.input
 
--- bytes that are no text
-refused : (name : List ℕ) (limit : ℕ) (found : Result (List ℕ) Status) (code : ℕ) (about : List ℕ) (place : Place) (s : Status) → found ≡ Err (status.Tex (fault_at code about place)) → IsStatusAt code about place s
-    → StartsOn name limit found (Err s)
-refused name limit found code about place status.Done e h = h
-refused name limit found code about place (status.Usage k) e h = h
-refused name limit found code about place (status.Tex f) e h = rw h e
-refused name limit found code about place (status.Model f) e h = h
-refused name limit found code about place (status.Limit n) e h = h
-refused name limit found code about place status.ReadFault e h = h
-refused name limit found code about place status.WriteFault e h = h
-refused name limit found code about place status.NoMemory e h = tt
+  text_is : IsTrue old.tells → whole_text old.contents found ≡ whole_text (λ n. Some (now.left id)) found
+  text_is told = rw (opened.left told) refl
 
-pub no_text : (name bytes : List ℕ) (limit : ℕ) (s : Status) → (IsUtf8 bytes → ⊥) → IsStatusAt NOT_UTF8 [] (before name) s → StartsOn name limit (text_of name (Some bytes)) (Err s)
-no_text name bytes limit s not h =
-    let bad : is_utf8 bytes ≡ false = false_from_ne_true _ (λ e. not (IsUtf8-from_is_utf8 bytes e)) in
-    refused name limit (text_of name (Some bytes)) NOT_UTF8 [] (before name) s (rw bad refl) h
+  pub starts_on : first_there old.contents (names_tried name) ≡ Some found → IsTrue old.tells → IsFirst old.contents name limit (main_text old.contents name) now started
+  starts_on there told = (
+    whole_text old.contents found,
+    rw there refl,
+    ap (state_of now) alone ∙ rw (empty.world, empty.kept, empty.main, empty.begun, empty.limit, empty.nesting, opened.contents, text_is told) refl,
+  )
 
--- bytes that are a text
-pub some_text : (name bytes : List ℕ) (limit : ℕ) (engine : Held) → IsUtf8 bytes → state_of engine ≡ first_state name limit (chars bytes) → IsFirst name limit (text_of name (Some bytes)) engine
-some_text name bytes limit engine is h =
-    let fine : is_utf8 bytes ≡ true = is_utf8-from_IsUtf8 bytes is in
-    (chars bytes, rw fine refl, h)
+  pub starts_sound : Sound started
+  starts_sound =
+      let s = empty.sound in
+      subst Sound (sym alone) (record { numbered = s.numbered; sources = (tt, tt); ready = refl; kept = s.kept; scope = s.scope; budget = s.budget })
+
+  pub starts_owns : old.ids ≡ [] → Owns now started
+  starts_owns none = subst (Owns now) (sym alone) (rw (opened.ids, none) (record { held = (?, refl, tt); all = refl }))
+
+-- a file that isn't there
+pub no_file : (old now : Shelf) (name : List ℕ) (limit : ℕ) (s : Status) → (IsTrue old.tells → first_there old.contents (names_tried name) ≡ None) → IsStatusAt MISSING_FILE name (before name) s → Starts old now name limit (Err s)
+no_file old now name limit status.Done none h = h
+no_file old now name limit (status.Usage k) none h = h
+no_file old now name limit (status.Tex f) none h = λ told. rw (none told, h) refl
+no_file old now name limit (status.Model f) none h = h
+no_file old now name limit (status.Limit n) none h = h
+no_file old now name limit status.ReadFault none h = h
+no_file old now name limit status.WriteFault none h = h
+no_file old now name limit status.NoMemory none h = tt
