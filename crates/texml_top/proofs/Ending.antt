@@ -187,11 +187,6 @@ module _ {T : Type 0} (lent : T → Lent) where
   part_whole rows None a b h calm = (Wrote-trace lent a b rows h).ink
   part_whole rows (Some last) a b h calm = (Wrote-within lent a h.0 b rows last h.1 h.2).whole calm
 
-  -- the sink is lent still
-  part_loan : (rows : List Record) (last : Option Record) (a b : T) → HeardLast Hears HearsPart rows last a b → (lent b).loan ≡ (lent a).loan
-  part_loan rows None a b h = (Wrote-trace lent a b rows h).loan
-  part_loan rows (Some last) a b h = (Wrote-within lent a h.0 b rows last h.1 h.2).loan
-
   -- records that were heard, and one in part
   first_part : (answer : Answer (List Op)) (a b : T) → MeetsFirst Hears HearsPart answer a b → MeetsPart Hears HearsPart answer a b
   first_part answer a b m = record { rows = m.rows; last = None; more = m.more; is = m.is ∙ ap (λ l. l ++ m.more) (sym (append-nil m.rows)); heard = m.heard }
@@ -203,14 +198,6 @@ module _ {T : Type 0} (lent : T → Lent) where
   trace_some : (rows more : List Record) (last : Record) → trace (rows ++ last ∷ more) ≢ []
   trace_some [] more last = line_some last (trace more)
   trace_some (row ∷ rows) more last = line_some row (trace (rows ++ last ∷ more))
-
-  pub expand_loan : (r : Result (List Op) Stop) (s new : State) (a b : T) → Follows Hears HearsPart (digests s) r new a b → (lent b).loan ≡ (lent a).loan
-  expand_loan (Ok v) s new a b g = (Wrote-trace lent a b g.meets.gains.records g.meets.heard).loan
-  expand_loan (Err (stop.Tex f)) s new a b g = (Wrote-trace lent a b g.meets.gains.records g.meets.heard).loan
-  expand_loan (Err (stop.Limit n)) s new a b g = (Wrote-trace lent a b g.meets.gains.records g.meets.heard).loan
-  expand_loan (Err stop.ReadFailed) s new a b g = part_loan g.meets.rows None a b g.meets.heard
-  expand_loan (Err stop.TellFailed) s new a b g = part_loan g.meets.rows (Some g.meets.last) a b g.meets.heard
-  expand_loan (Err stop.NoMemory) s new a b g = part_loan g.meets.rows g.meets.last a b g.meets.heard
 
   -- what holds of the trace holds of the outcome's bytes
   by_trace : (s : State) (answer : Answer (List Op)) (Has : List ℕ → Type 0) → DecidesOn (digests s) answer → Has (trace (added answer).records) → FromState Expand s (λ all. Has all.bytes)

@@ -16,4 +16,4 @@ pub returns-clause-does : goal.returns-clause-does
 returns-clause-does g c =
     let text = c.in_ok-text.text in let d = c.in_ok-text.ensures.does in let new = c.verb.new.engine in
     does_then _ _ verb (λ text n. give (code_ops text)) lawful_verb (λ text. lawful_plain (give (code_ops text)) (plain_give _)) text (Ok (code_ops text)) _ new new _ _ _ _ _ _ d
-    (does_now _ _ (give (code_ops text)) (plain_give _) (code_ops text) new _ _ d.keeps.sound d.stops.kept refl)
+    (does_now _ _ (give (code_ops text)) (plain_give _) (code_ops text) new _ _ d.keeps.sound d.holds.owns d.stops.kept (λ shelf. refl))

@@ -20,10 +20,10 @@ pub returns-in-Ok-clause-does : goal.returns-in-Ok-clause-does
 returns-in-Ok-clause-does g c =
     let t = token_at c.args.engine.now.names c.args.token in let seen = c.args.seen.now in let d = c.in_ok-piece.ensures.does in let mid = c.digest_token.new.engine in let ops = ops_of c.in_ok-piece.piece in
     does_then _ _ (digest_token t) (more_seen seen) (lawful_token t) (lawful_more seen) ops _ _ mid mid _ _ _ _ _ _ d
-    (does_now _ _ (more_seen seen ops 0) (plain_give _) (On c.add.new.self) mid _ _ d.keeps.sound d.stops.kept (ap (λ l. Done (On l) (state_of mid) nothing) (sym c.in-Ok.ensures)))
+    (does_now _ _ (more_seen seen ops 0) (plain_give _) (On c.add.new.self) mid _ _ d.keeps.sound d.holds.owns d.stops.kept (λ shelf. ap (λ l. Done (On l) (state_of shelf mid) nothing) (sym c.in-Ok.ensures)))
 
 pub returns-in-Err-clause-does : goal.returns-in-Err-clause-does
 returns-in-Err-clause-does g c =
     let t = token_at c.args.engine.now.names c.args.token in let seen = c.args.seen.now in let d = c.in_ok-piece.ensures.does in let mid = c.digest_token.new.engine in let ops = ops_of c.in_ok-piece.piece in
     does_then _ _ (digest_token t) (more_seen seen) (lawful_token t) (lawful_more seen) ops _ _ mid c.no_memory.new.self _ _ _ _ _ _ d
-    (does_out _ _ (more_seen seen ops) (lawful_more seen ops) c.no_memory.result mid c.no_memory.new.self _ _ d.keeps.sound c.no_memory.ensures.is c.no_memory.ensures.kept)
+    (does_out _ _ (more_seen seen ops) (lawful_more seen ops) c.no_memory.result mid c.no_memory.new.self _ _ d.keeps.sound d.holds.owns c.no_memory.ensures.is c.no_memory.ensures.kept)
