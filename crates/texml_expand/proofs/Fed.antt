@@ -1,5 +1,5 @@
 -- Tokens that are fed until they decide, as the readings by the least number of next tokens see them.
-use Rattle.std.proofs.Common.{◌≡◌, ◌+◌, ◌≤◌, ◌<◌, ℕ, suc, true, false, List, [], ◌∷◌, ◌++◌, length, length-append, append_assoc, take, take_all, IsTrue, None, Result, Ok, Err, refl, sym, ap, ◌∙◌, subst, arith, inl, inr}
+use Rattle.std.proofs.Common.{◌≡◌, ◌+◌, ◌≤◌, ◌<◌, ℕ, suc, true, false, List, [], ◌∷◌, ◌++◌, length, length-append, append_assoc, take, take_all, IsTrue, None, Some, Result, Ok, Err, refl, sym, ap, ◌∙◌, subst, arith, inl, inr}
 use Rattle.std.proofs.lemmas.Bool.{cases_lt}
 use Rattle.std.proofs.lemmas.List.{map-append, length-map, take-append-le}
 use Rattle.std.proofs.lemmas.List.Elements.{All-nil, All-push, All-take}
@@ -18,7 +18,7 @@ use Rattle.texml_expand.specs.Held.{Held, place_of, state_of, Sound, Kept, Owns,
 use Rattle.texml_expand.specs.Contract.{Quiet, Outside, IsFaultAt}
 use Rattle.texml_expand.specs.Doing.{Gets, Runs}
 use Rattle.texml_expand.specs.Least.{inner_token, next_tokens, decides, decided, is_enough, by_least}
-use Rattle.texml_expand.specs.Feeding.{Judge, IsFed, Short, Seen, Settled, CutShort, Refused, Cut, Feeds, FeedsTold, Fed}
+use Rattle.texml_expand.specs.Feeding.{Judge, IsFed, Short, Seen, Settled, CutShort, Refused, Cut, Feeds, FeedsTold, FedBy}
 use Rattle.texml_expand.proofs.Deciding.{after_nothing}
 use Rattle.texml_expand.proofs.Leading.{leads_at}
 use Rattle.texml_expand.proofs.Fronts.{kept_then, kept_itself}
@@ -146,8 +146,8 @@ module _ {V : Type 0} (first judge judge' : Judge V) (old now new : Held) (f g h
   pub feeding_settled : (v : V) → verdict ≡ Yields v → FeedsTold first (state_of f.shelf old) f.shelf (Ok v) new.names (state_of h.shelf new)
   feeding_settled v e told = subst (Settled first (state_of f.shelf old) new.names (state_of h.shelf new)) e (settled_now told)
 
-  pub feeding_fed : (v : V) → verdict ≡ Yields v → Fed first v f.shelf old h.shelf new
-  feeding_fed v e = record { list = list; is = whole new.names (extends_refl new.names) ∙ e; shrinks = less }
+  pub feeding_fed : (v : V) → verdict ≡ Yields v → FedBy first v f.shelf old h.shelf new
+  feeding_fed v e = record { list = list; within = within_more; is = whole new.names (extends_refl new.names) ∙ e; shrinks = less }
 
   pub feeding_runs : (v : V) → Runs (Ok v) old new f h
   feeding_runs v = runs_as tt v old new f h behind
@@ -184,8 +184,11 @@ module _ {V : Type 0} (first judge judge' : Judge V) (old now new : Held) (f g h
   pub refuses_runs : (code : ℕ) (e : Stop) (last : Held) → IsFaultAt code [] (place_of new) e → last ≡ record new { stop = Some e } → Runs {A = V} (Err e) old last f h
   refuses_runs code e last bad is = runs_then tt (Err e) old new last f h h behind (runs_fault code [] e new last h bad is d.holds.owns)
 
-  pub out_runs : (e : Stop) (last : Held) → e ≡ stop.NoMemory → last ≡ record new { stop = Some stop.NoMemory } → Runs {A = V} (Err e) old last f h
-  out_runs e last short is = runs_then tt (Err e) old new last f h h behind (runs_out e new last h short is d.holds.owns)
+-- memory is refused where a token is fed
+pub out_runs : {V A : Type 0} (first judge : Judge V) (old now mid new : Held) (f g h : Outside) (t : Token) (e : Stop) → Feeding first old f judge now g → Gets inner_token (Ok t) now mid g h → e ≡ stop.NoMemory → new ≡ record mid { stop = Some stop.NoMemory }
+    → Runs {A = A} (Err e) old new f h
+out_runs first judge old now mid new f g h t e i d short is =
+    runs_then tt (Err e) old now new f g h i.runs (runs_then t (Err e) now mid new g h h (gets_runs inner_token (Ok t) now mid g h d) (runs_out e mid new h short is d.holds.owns))
 
 -- no next token can be taken
 feeding_cut : {V : Type 0} (first judge : Judge V) (old now : Held) (f g : Outside) (end : End) → Feeding first old f judge now g → IsTrue f.shelf.tells → inner_token (state_of g.shelf now) ≡ Ended end nothing → CutShort first (state_of f.shelf old) end

@@ -28,7 +28,7 @@ use Rattle.texml_expand.specs.Arguments.{fault_number, decided_by, read_by}
 use Rattle.texml_expand.proofs.Leading.{leads_at}
 use Rattle.texml_expand.proofs.Fronts.{kept_then, kept_itself}
 use Rattle.texml_expand.proofs.Taking.{quiet_fault}
-use Rattle.texml_expand.proofs.Running.{told_on, shrinks_none, shrinks_then, runs_then, runs_as, runs_now, runs_fault, runs_out, gets_runs}
+use Rattle.texml_expand.proofs.Running.{told_on, shrinks_none, shrinks_then, runs_then, runs_as, runs_now, runs_stop, runs_fault, runs_out, gets_runs}
 use Rattle.texml_expand.proofs.Getting.{gets_by}
 use Rattle.texml_expand.proofs.Least.{Took, takes_room, next_took, by_least_at, by_least_ends}
 use Rattle.texml_expand.proofs.Fed.{tokens_more_one, tokens_end, push_length}
@@ -203,7 +203,7 @@ module _ (shape : Shape TokenCode) (old : Held) (f : Outside) where
   matching_stops m now new g h e i d =
       gets_by (read_by reader) (Err e) old new f h
       (λ told. cut_by e i.seen (state_of g.shelf now) (state_of h.shelf new) (state_of h.shelf new) (i.taken told) i.short (d.reads (told_on f.shelf g.shelf old now i.runs.holds told)))
-      (runs_then tt (Err e) old now new f g h i.runs (gets_runs inner_token (Err e) now new g h d))
+      (runs_then tt (Err e) old now new f g h i.runs (runs_stop e now new g h (gets_runs inner_token (Err e) now new g h d)))
 
   pub reads_now : (m : Matched) (now new : Held) (g : Outside) → Matching m now g → Kept now new → Reads new.names shape m
   reads_now m now new g i keeps = reads_kept now.names new.names keeps.grows keeps.sound.numbered shape m i.reads

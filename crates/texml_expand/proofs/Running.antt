@@ -9,7 +9,7 @@ use Rattle.texml_expand.specs.declared.stop.Stop.TheVariants as stop
 use Rattle.texml_expand.specs.State.{Reading}
 use Rattle.texml_expand.specs.Expand.{ByDepth}
 use Rattle.texml_expand.specs.Contract.{Outside, outside, files_at, Stops, IsFaultAt, stop_after}
-use Rattle.texml_expand.specs.Held.{Held, place_of, Sound, Kept, Progress, IsAtLimit, Owns, Holding, SameFiles, held_room, Shrinks, Begun, Puts}
+use Rattle.texml_expand.specs.Held.{Held, place_of, Sound, Kept, Progress, IsAtLimit, Owns, Holding, SameFiles, ok_at, held_room, Shrinks, Begun, Puts}
 use Rattle.texml_expand.specs.Doing.{Does, Gets, Runs}
 use Rattle.texml_expand.proofs.Meeting.{NothingFails, stops_untold, stops_then, stops_same, stops_as}
 use Rattle.texml_expand.proofs.Fronts.{kept_then, kept_itself}
@@ -183,3 +183,13 @@ gets_runs x r old new f g d = record { stops = d.stops; limit = d.limit; keeps =
 
 pub does_runs : {T A : Type 0} (hear part : T → Record → T → Type 0) (x : ByDepth A) (r : Result A Stop) (old new : Held) (f g : Outside) (a b : T) → Does hear part x r old new f g a b → Runs r old new f g
 does_runs hear part x r old new f g a b d = record { stops = d.stops; limit = d.limit; keeps = d.keeps; progress = d.progress; holds = d.holds }
+
+-- the value stands for another one
+pub runs_at : {A B : Type 0} (at : A → B) (r : Result A Stop) (old new : Held) (f g : Outside) → Runs r old new f g → Runs (ok_at at r) old new f g
+runs_at at (Ok v) old new f g d = runs_as v (at v) old new f g d
+runs_at at (Err e) old new f g d = runs_stop e old new f g d
+
+-- some of the tokens that were read are put back, if all is well
+pub ok_puts : {A : Type 0} (r : Result A Stop) (j k m : ℕ) (a b : Shelf) (old mid new : Held) → Shrinks j a old b mid → OnOk r (Puts k mid new) → m + k ≤ j → OnOk r (Shrinks m a old b new)
+ok_puts (Ok v) j k m a b old mid new g h le = shrinks_puts j k m a b old mid new g h le
+ok_puts (Err e) j k m a b old mid new g h le = tt

@@ -7,7 +7,7 @@ ghost use Rattle.texml_scope.specs.Numbers.{meaning_at, MacroWithin};
 ghost use Rattle.texml_match.specs.Shape.{ShapeWithin, shape_at, is_empty};
 ghost use Rattle.texml_match.specs.Arguments.{reading, argument as spec_argument};
 ghost use Rattle.texml_expand.specs.declared.feeding.Verdict.TheVariants.{TooShort};
-ghost use Rattle.texml_expand.specs.Feeding.{FeedsTold, Fed};
+ghost use Rattle.texml_expand.specs.Feeding.{FeedsTold, FedBy};
 ghost use Rattle.texml_expand.specs.Least.{inner_token as spec_inner_token};
 ghost use Rattle.texml_expand.specs.Absorb.{absorb as spec_absorb};
 ghost use Rattle.texml_expand.specs.Arguments.{fault_number, read_by, is_sign as spec_is_sign, sign_or_back as spec_sign_or_back, sign as spec_sign, optional as spec_optional};
@@ -146,7 +146,7 @@ impl Engine {
         requires owns { Owns (F.shelf files.old) self.old }
         requires short { self.old.stop ≡ None → (texts : Table) → D.judge feeder.old texts [] ≡ TooShort }
         ensures feeds { self.old.stop ≡ None → FeedsTold (D.judge feeder.old) (state_of (F.shelf files.old) self.old) (F.shelf files.old) result self.new.names (state_of (F.shelf files.new) self.new) }
-        ensures lower { self.old.stop ≡ None → IfOk result (λ v. Fed (D.judge feeder.old) v (F.shelf files.old) self.old (F.shelf files.new) self.new) }
+        ensures lower { self.old.stop ≡ None → IfOk result (λ v. FedBy (D.judge feeder.old) v (F.shelf files.old) self.old (F.shelf files.new) self.new) }
         ensures stops { self.old.stop ≡ None → Stops result (outside (F.shelf files.old) (F.faults files.old) (T.faults tell.old) (T.loan tell.old)) (outside (F.shelf files.new) (F.faults files.new) (T.faults tell.new) (T.loan tell.new)) self.new.stop }
         ensures progress { Progress self.old self.new }
         ensures limit { self.old.stop ≡ None → IsAtLimit result self.new }
@@ -435,7 +435,7 @@ impl Engine {
         requires short { (texts : Table) → D.judge feeder.old texts [] ≡ TooShort }
         ensures feeds { FeedsTold (D.judge feeder.old) (state_of (F.shelf files.old) self.old) (F.shelf files.old) result self.new.names (state_of (F.shelf files.new) self.new) }
         ensures runs { Runs result self.old self.new (files_at (F.shelf files.old) (F.faults files.old)) (files_at (F.shelf files.new) (F.faults files.new)) }
-        ensures lower { IfOk result (λ v. Fed (D.judge feeder.old) v (F.shelf files.old) self.old (F.shelf files.new) self.new) }
+        ensures lower { IfOk result (λ v. FedBy (D.judge feeder.old) v (F.shelf files.old) self.old (F.shelf files.new) self.new) }
     {
         'tokens: loop {
             let token = self.inner_token(files)?;
