@@ -25,7 +25,7 @@ returns-clause-follows g c = λ running.
     let d = index_as _ _ _ (index_of v) _ _ _ _ _ _ _ (sym c.index_of.ensures) i in
     let same = ap (key_at new.names) c.key_of.ensures ∙ key_same new.names v n in
     let k = does_then (hears T.wanting T.heard) (hears_part T.wanting T.part) (λ c. read_index c (index_of v)) (λ n c. give (key_of v n)) (lawful_index (index_of v)) (λ n. lawful_give (key_of v n)) n _ _ _ _ _ _ _ _ _ _ d
-    (does_now (hears T.wanting T.heard) (hears_part T.wanting T.part) (key_of v n) new (outside (F.shelf files) (F.faults files) (T.faults tell) (T.loan tell)) tell i.keeps.sound i.stops.kept) in
+    (does_now (hears T.wanting T.heard) (hears_part T.wanting T.part) (key_of v n) new (outside (F.shelf files) (F.faults files) (T.faults tell) (T.loan tell)) tell i.keeps.sound i.stops.kept i.holds.owns) in
     rw same k.follows
 
 pub returns-in_err-number-clause-follows : goal.returns-in_err-number-clause-follows
