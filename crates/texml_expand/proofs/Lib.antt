@@ -24,6 +24,7 @@ mod Rows
 pub mod Scanning
 pub mod Printing
 pub mod Judging
+pub mod Faces
 pub mod Fronts
 pub mod Doing
 pub mod Rounds
@@ -33,6 +34,9 @@ pub mod Worth
 pub mod Within
 pub mod Least
 pub mod Fed
+pub mod Stepping
+pub mod Skips
+pub mod Seeks
 pub mod Groups
 pub mod Sequence
 pub mod Spacing
