@@ -37,7 +37,7 @@ module _ (h : Held) (names : Table) (input : HeldInput) (a b : Shelf) (reads rea
   mid_holds = record { owns = record { held = holds.held; all = holds.exact owns.all }; tells = holds.tells; contents = holds.contents; fences = fences }
 
   mid_progress : Progress h mid
-  mid_progress = record { names = grows; begun = omega arith; limit = refl; writes = refl }
+  mid_progress = record { names = grows; begun = omega arith; limit = refl; writes = omega arith }
 
   -- it stops there
   stopped : {A : Type 0} (e : Stop) (new : Held) → new ≡ record mid { stop = Some e } → ReadsBecause {A = A} (Err e) reads reads' → TellsBecause {A = A} (Err e) 0 0 → IsAtLimit {A = A} (Err e) new
