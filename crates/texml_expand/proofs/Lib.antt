@@ -38,6 +38,7 @@ pub mod Stepping
 pub mod Skips
 pub mod Seeks
 pub mod Skipping
+pub mod Seeking
 pub mod Groups
 pub mod Sequence
 pub mod Spacing

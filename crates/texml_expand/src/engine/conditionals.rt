@@ -343,6 +343,7 @@ impl Engine {
         requires owns { Owns (F.shelf files.old) self.old }
         ensures gets { Gets spec_skipped result self.old self.new (files_at (F.shelf files.old) (F.faults files.old)) (files_at (F.shelf files.new) (F.faults files.new)) }
         ensures lower { OnOk result (Shrinks 1 (F.shelf files.old) self.old (F.shelf files.new) self.new) }
+        ensures begun { self.new.begun ≡ self.old.begun }
     {
         let mut skip = Skip::new();
         'tokens: loop {
