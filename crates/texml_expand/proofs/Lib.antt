@@ -39,6 +39,7 @@ pub mod Skips
 pub mod Seeks
 pub mod Skipping
 pub mod Seeking
+pub mod Comparing
 pub mod Groups
 pub mod Sequence
 pub mod Spacing
