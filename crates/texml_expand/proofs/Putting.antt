@@ -58,3 +58,6 @@ files_back h t false = record { ids = refl; fences = refl }
 pub state_finished : (h : Held) (list : List TokenCode) (shelf : Shelf)
     → state_of shelf (record h { input = record h.input { sources = map Plain list ++ h.input.sources }; nesting = h.nesting - 1 }) ≡ finished (tokens_at h.names list) (state_of shelf h)
 state_finished h list shelf = ap (λ (s : State). record s { nesting = h.nesting - 1 }) (state_put h list shelf)
+
+pub files_finished : (h new : Held) (list : List TokenCode) → SameFiles (record h { input = record h.input { sources = map Plain list ++ h.input.sources }; nesting = h.nesting - 1 }) new → SameFiles h new
+files_finished h new list same = record { ids = same.ids ∙ ids_put list h.input.sources; fences = same.fences ∙ fences_put list h.input.sources }

@@ -34,6 +34,7 @@ use Rattle.texml_expand.proofs.Progress.{progress_itself}
 use Rattle.texml_expand.proofs.Fronts.{kept_itself}
 use Rattle.texml_scan.specs.Looked.{look_of}
 use Rattle.texml_scan.specs.declared.looks.Held.TheVariants.{Nothing}
+use Rattle.texml_expand.proofs.Stopping.{passed_on}
 use Rattle.texml_expand.proofs.Running.{shrinks_none, shrinks_then, files_same}
 use Rattle.texml_expand.proofs.Showing.{the_stops, the_ends, the_behind, shown_stops, shown_then}
 use Rattle.texml_scan.specs.declared.looks.Look.{Look}
@@ -135,7 +136,7 @@ given-returns-in_err-value-in-Number-clause-does g t c =
     let F = g.F.Files in
     let d = does_stop (hears T.wanting T.heard) (hears_part T.wanting T.part) (λ c. c.scan int_text []) (λ i c. give (printed_tokens (signed_decimal i))) (lawful_scan int_text) (λ i. lawful_give (printed_tokens (signed_decimal i))) _ _ _ _ _ _ _ c.in_err-value-in-Number.ensures.does in
     let h = given_as (hears T.wanting T.heard) (hears_part T.wanting T.part) _ (expandable_at c.args.self.now.names c.args.found) _ _ _ _ _ _ _ (ap (expandable_at c.args.self.now.names) c.in-Number.is) d in
-    search (rules, h)
+    rw (passed_on c.from_residual.result c.in_err-value-in-Number.field-0.0 c.from_residual.ensures) h
 
 pub given-returns-in_err-value-in-RomanNumeral-clause-does : goal.given-returns-in_err-value-in-RomanNumeral-clause-does
 given-returns-in_err-value-in-RomanNumeral-clause-does g t c =
@@ -143,7 +144,7 @@ given-returns-in_err-value-in-RomanNumeral-clause-does g t c =
     let F = g.F.Files in
     let d = does_stop (hears T.wanting T.heard) (hears_part T.wanting T.part) (λ c. c.scan int_text []) (λ i c. give (printed_tokens (roman_text i))) (lawful_scan int_text) (λ i. lawful_give (printed_tokens (roman_text i))) _ _ _ _ _ _ _ c.in_err-value-in-RomanNumeral.ensures.does in
     let h = given_as (hears T.wanting T.heard) (hears_part T.wanting T.part) _ (expandable_at c.args.self.now.names c.args.found) _ _ _ _ _ _ _ (ap (expandable_at c.args.self.now.names) c.in-RomanNumeral.is) d in
-    search (rules, h)
+    rw (passed_on c.from_residual-in_err-value-in-RomanNumeral.result c.in_err-value-in-RomanNumeral.field-0.0 c.from_residual-in_err-value-in-RomanNumeral.ensures) h
 
 pub given-returns-in_ok-value-in-Number-clause-does : goal.given-returns-in_ok-value-in-Number-clause-does
 given-returns-in_ok-value-in-Number-clause-does g t c =
@@ -156,7 +157,7 @@ given-returns-in_ok-value-in-Number-clause-does g t c =
     let files = c.int.new.files in
     let i = c.in_ok-value-in-Number.value in
     let fits : FitsSigned w32 i = search rules in
-    let d = does_as (hears T.wanting T.heard) (hears_part T.wanting T.part) (tokens_at new.names) (λ c. give (printed_tokens (signed_decimal i))) (lawful_give (printed_tokens (signed_decimal i))) c.number.result mid new (outside (F.shelf files) (F.faults files) (T.faults tell) (T.loan tell)) tell (by_new tokens_at _ _ mid new (subst (λ z. Local (give (printed_tokens (signed_decimal z))) (ok_at (tokens_at mid.names) c.number.result) mid new) (to_z-of_z w32 i fits) e.writes) e.same) e.kept e.limit e.keeps e.progress e.files c.in_ok-value-in-Number.ensures.does.holds.owns in
+    let d = does_as (hears T.wanting T.heard) (hears_part T.wanting T.part) (tokens_at new.names) (λ c. give (printed_tokens (signed_decimal i))) (lawful_give (printed_tokens (signed_decimal i))) c.number.result mid new (outside (F.shelf files) (F.faults files) (T.faults tell) (T.loan tell)) tell (by_new tokens_at (give (printed_tokens (signed_decimal i))) c.number.result mid new (subst (λ z. Local (give (printed_tokens (signed_decimal z))) (ok_at (tokens_at mid.names) c.number.result) mid new) (to_z-of_z w32 i fits) e.writes) e.same) e.kept e.limit e.keeps e.progress e.files c.in_ok-value-in-Number.ensures.does.holds.owns in
     rw c.in-Number.is (does_then (hears T.wanting T.heard) (hears_part T.wanting T.part) (λ c. c.scan int_text []) (λ i c. give (printed_tokens (signed_decimal i))) (lawful_scan int_text) (λ i. lawful_give (printed_tokens (signed_decimal i))) i _ _ _ _ _ _ _ _ _ _ c.in_ok-value-in-Number.ensures.does d)
 
 pub given-returns-in_ok-value-in-RomanNumeral-clause-does : goal.given-returns-in_ok-value-in-RomanNumeral-clause-does
@@ -170,7 +171,7 @@ given-returns-in_ok-value-in-RomanNumeral-clause-does g t c =
     let files = c.int-in-RomanNumeral.new.files in
     let i = c.in_ok-value-in-RomanNumeral.value in
     let fits : FitsSigned w32 i = search rules in
-    let d = does_as (hears T.wanting T.heard) (hears_part T.wanting T.part) (tokens_at new.names) (λ c. give (printed_tokens (roman_text i))) (lawful_give (printed_tokens (roman_text i))) c.roman_numeral.result mid new (outside (F.shelf files) (F.faults files) (T.faults tell) (T.loan tell)) tell (by_new tokens_at _ _ mid new (subst (λ z. Local (give (printed_tokens (roman_text z))) (ok_at (tokens_at mid.names) c.roman_numeral.result) mid new) (to_z-of_z w32 i fits) e.writes) e.same) e.kept e.limit e.keeps e.progress e.files c.in_ok-value-in-RomanNumeral.ensures.does.holds.owns in
+    let d = does_as (hears T.wanting T.heard) (hears_part T.wanting T.part) (tokens_at new.names) (λ c. give (printed_tokens (roman_text i))) (lawful_give (printed_tokens (roman_text i))) c.roman_numeral.result mid new (outside (F.shelf files) (F.faults files) (T.faults tell) (T.loan tell)) tell (by_new tokens_at (give (printed_tokens (roman_text i))) c.roman_numeral.result mid new (subst (λ z. Local (give (printed_tokens (roman_text z))) (ok_at (tokens_at mid.names) c.roman_numeral.result) mid new) (to_z-of_z w32 i fits) e.writes) e.same) e.kept e.limit e.keeps e.progress e.files c.in_ok-value-in-RomanNumeral.ensures.does.holds.owns in
     rw c.in-RomanNumeral.is (does_then (hears T.wanting T.heard) (hears_part T.wanting T.part) (λ c. c.scan int_text []) (λ i c. give (printed_tokens (roman_text i))) (lawful_scan int_text) (λ i. lawful_give (printed_tokens (roman_text i))) i _ _ _ _ _ _ _ _ _ _ c.in_ok-value-in-RomanNumeral.ensures.does d)
 
 pub index-returns-in-Alone-clause-does : goal.index-returns-in-Alone-clause-does
@@ -185,7 +186,7 @@ index-returns-in_err-number-in-Character-clause-does g t c =
     let F = g.F.Files in
     let d = does_stop (hears T.wanting T.heard) (hears_part T.wanting T.part) (λ c. c.scan int_text []) (λ i c. a_character i) (lawful_scan int_text) lawful_character _ _ _ _ _ _ _ c.in_err-number-in-Character.ensures.does in
     let h = index_as (hears T.wanting T.heard) (hears_part T.wanting T.part) Character c.args.index _ _ _ _ _ _ _ c.in-Character.is d in
-    search (rules, h)
+    rw (passed_on c.from_residual.result c.in_err-number-in-Character.field-0.0 c.from_residual.ensures) h
 
 pub index-returns-in_err-number-in-Register-clause-does : goal.index-returns-in_err-number-in-Register-clause-does
 index-returns-in_err-number-in-Register-clause-does g t c =
@@ -193,7 +194,7 @@ index-returns-in_err-number-in-Register-clause-does g t c =
     let F = g.F.Files in
     let d = does_stop (hears T.wanting T.heard) (hears_part T.wanting T.part) (λ c. c.scan int_text []) (λ i c. a_register i) (lawful_scan int_text) lawful_register _ _ _ _ _ _ _ c.in_err-number-in-Register.ensures.does in
     let h = index_as (hears T.wanting T.heard) (hears_part T.wanting T.part) Register c.args.index _ _ _ _ _ _ _ c.in-Register.is d in
-    search (rules, h)
+    rw (passed_on c.from_residual-in_err-number-in-Register.result c.in_err-number-in-Register.field-0.0 c.from_residual-in_err-number-in-Register.ensures) h
 
 pub index-returns-in_ok-number-in-Character-clause-does : goal.index-returns-in_ok-number-in-Character-clause-does
 index-returns-in_ok-number-in-Character-clause-does g t c =
@@ -270,7 +271,7 @@ internal-returns-in-Quantity-clause-does g t c =
     let mine = c.args.self.now in
     let new = c.value_of.new.self in
     let k = key_at mine.names c.in-Quantity.key in
-    let d = does_as (hears T.wanting T.heard) (hears_part T.wanting T.part) (internal_at new.names) (value k) (lawful_value k) c.value_of.result mine new (outside (F.shelf c.args.files.now) (F.faults c.args.files.now) (T.faults c.args.tell.now) (T.loan c.args.tell.now)) c.args.tell.now (by_new internal_at _ _ mine new e.values e.same) e.kept e.limit e.keeps e.progress e.files c.requires.owns in
+    let d = does_as (hears T.wanting T.heard) (hears_part T.wanting T.part) (internal_at new.names) (value k) (lawful_value k) c.value_of.result mine new (outside (F.shelf c.args.files.now) (F.faults c.args.files.now) (T.faults c.args.tell.now) (T.loan c.args.tell.now)) c.args.tell.now (by_new internal_at (value_of k) c.value_of.result mine new e.values e.same) e.kept e.limit e.keeps e.progress e.files c.requires.owns in
     rw c.in-Quantity.is d
 
 pub internal-returns-in_default : goal.internal-returns-in_default
@@ -301,7 +302,7 @@ internal_at-returns-clause-does g t c =
     let key = does_then (hears T.wanting T.heard) (hears_part T.wanting T.part) (λ c. read_index c (index_of v)) (λ n c. give (key_of v n)) (lawful_index (index_of v)) (λ n. lawful_give (key_of v n)) n _ _ _ _ _ _ _ _ _ _ index (does_now (hears T.wanting T.heard) (hears_part T.wanting T.part) k mid (outside (F.shelf files) (F.faults files) (T.faults tell) (T.loan tell)) tell i.keeps.sound i.stops.kept i.holds.owns) in
     let same = ap (key_at mid.names) c.key_of.ensures ∙ key_same mid.names v n in
     let values = subst (λ k. Local (value_of k) (ok_at (internal_at mid.names) c.value_of.result) mid new) same e.values in
-    let d = does_as (hears T.wanting T.heard) (hears_part T.wanting T.part) (internal_at new.names) (value k) (lawful_value k) c.value_of.result mid new (outside (F.shelf files) (F.faults files) (T.faults tell) (T.loan tell)) tell (by_new internal_at _ _ mid new values e.same) e.kept e.limit e.keeps e.progress e.files i.holds.owns in
+    let d = does_as (hears T.wanting T.heard) (hears_part T.wanting T.part) (internal_at new.names) (value k) (lawful_value k) c.value_of.result mid new (outside (F.shelf files) (F.faults files) (T.faults tell) (T.loan tell)) tell (by_new internal_at (value_of k) c.value_of.result mid new values e.same) e.kept e.limit e.keeps e.progress e.files i.holds.owns in
     rw some (does_then (hears T.wanting T.heard) (hears_part T.wanting T.part) (λ c. read_key c v) value (lawful_key v) lawful_value k _ _ _ _ _ _ _ _ _ _ key d)
 
 pub internal_at-returns-in_default-clause-does : goal.internal_at-returns-in_default-clause-does
@@ -322,7 +323,7 @@ internal_at-returns-in_err-number-clause-does g t c =
     let key = does_stop (hears T.wanting T.heard) (hears_part T.wanting T.part) (λ c. read_index c (index_of v)) (λ n c. give (key_of v n)) (lawful_index (index_of v)) (λ n. lawful_give (key_of v n)) _ _ _ _ _ _ _ index in
     let h = does_stop (hears T.wanting T.heard) (hears_part T.wanting T.part) (λ c. read_key c v) value (lawful_key v) lawful_value _ _ _ _ _ _ _ key in
     let goal = subst (λ o. Does (hears T.wanting T.heard) (hears_part T.wanting T.part) (λ n. internal_of (level n) o) (Err c.in_err-number.field-0.0) c.args.self.now c.index.new.self (outside (F.shelf c.args.files.now) (F.faults c.args.files.now) (T.faults c.args.tell.now) (T.loan c.args.tell.now)) (outside (F.shelf c.index.new.files) (F.faults c.index.new.files) (T.faults c.index.new.tell) (T.loan c.index.new.tell)) c.args.tell.now c.index.new.tell) (sym some) h in
-    search (rules, goal)
+    rw (passed_on c.from_residual.result c.in_err-number.field-0.0 c.from_residual.ensures) goal
 
 pub look_by-returns-clause-does : goal.look_by-returns-clause-does
 look_by-returns-clause-does g t c =
@@ -432,7 +433,7 @@ next_looked-returns-in_err-read-2-clause-does g t c =
     let F = g.F.Files in
     let h = does_stop (hears T.wanting T.heard) (hears_part T.wanting T.part) (λ c. c.fetch) counts lawful_fetch lawful_counts _ _ _ _ _ _ _ c.in_err-read-2.ensures.does in
     let goal = looked_as (hears T.wanting T.heard) (hears_part T.wanting T.part) false c.args.raw _ _ _ _ _ _ _ c.if-raw.false h in
-    search (rules, goal)
+    rw (passed_on c.from_residual-in_err-read-2.result c.in_err-read-2.field-0.0 c.from_residual-in_err-read-2.ensures) goal
 
 pub next_looked-returns-in_err-read-clause-does : goal.next_looked-returns-in_err-read-clause-does
 next_looked-returns-in_err-read-clause-does g t c =
@@ -590,7 +591,7 @@ the-returns-clause-does g t c =
     let last = c.internal.new.tell in
     let held_files = c.internal.new.files in
     let q = internal_at now.names c.in_ok-internal.internal in
-    let u = does_as (hears T.wanting T.heard) (hears_part T.wanting T.part) (tokens_at new.names) (λ c. give (shown q)) (lawful_give (shown q)) c.shown.result now new (outside (F.shelf held_files) (F.faults held_files) (T.faults last) (T.loan last)) last (by_new tokens_at _ _ now new e.writes e.same) e.kept e.limit e.keeps e.progress e.files c.in_ok-internal.ensures.does.holds.owns in
+    let u = does_as (hears T.wanting T.heard) (hears_part T.wanting T.part) (tokens_at new.names) (λ c. give (shown q)) (lawful_give (shown q)) c.shown.result now new (outside (F.shelf held_files) (F.faults held_files) (T.faults last) (T.loan last)) last (by_new tokens_at (give (shown q)) c.shown.result now new e.writes e.same) e.kept e.limit e.keeps e.progress e.files c.in_ok-internal.ensures.does.holds.owns in
     let k = shown_then (hears T.wanting T.heard) (hears_part T.wanting T.part) x m q _ _ _ _ _ _ _ _ _ _ c.in-Ok.ensures.means c.in_ok-internal.ensures.does u in
     the_behind (hears T.wanting T.heard) (hears_part T.wanting T.part) x _ _ _ _ _ _ _ _ _ _ d k
 
