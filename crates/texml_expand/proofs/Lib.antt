@@ -26,6 +26,7 @@ pub mod Meeting
 mod Rows
 pub mod Scanning
 pub mod Printing
+pub mod Counting
 pub mod Judging
 pub mod Fronts
 pub mod Doing
