@@ -1,7 +1,4 @@
 pub mod Items
-pub mod Pages
-pub mod Turns
-pub mod Onward
 pub mod Lower
 pub mod Catcodes
 pub mod Taking
@@ -44,3 +41,7 @@ pub mod Matching
 pub mod Mapping
 pub mod Called
 pub mod Lengths
+pub mod Placing
+pub mod Running
+pub mod Getting
+pub mod Inputs

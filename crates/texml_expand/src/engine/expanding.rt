@@ -1,6 +1,6 @@
 //! Fetching, expanding and looking at tokens for quantities: these lead back to each other.
 
-ghost use Rattle.std.specs.Prelude.{◌≡◌, ◌+◌, ◌-◌, ◌≤◌, ◌∷◌, ◌++◌, Some, None, [], length, map, IfSome, IsSome, IfOk, OnOk, option_map, option_to_list, pos, OnErr, encode_utf8_all};
+ghost use Rattle.std.specs.Prelude.{ℕ, ◌≡◌, ◌+◌, ◌-◌, ◌≤◌, ◌∷◌, ◌++◌, Some, None, [], length, map, IfSome, IsSome, IfOk, OnOk, option_map, option_to_list, pos, OnErr, encode_utf8_all};
 ghost use Rattle.std.specs.List.{All};
 ghost use Rattle.texml_token.specs.Numbers.{token_at, tokens_at, TokenWithin, TokensWithin, OptionWithin};
 ghost use Rattle.texml_scope.specs.Numbers.{meaning_at, MeaningWithin};
@@ -14,13 +14,13 @@ ghost use Rattle.texml_expand.specs.Calls.{expandable, tokens_of};
 ghost use Rattle.texml_token.specs.Spelling.{shown as shown_text};
 ghost use Rattle.texml_expand.specs.Expand.{front_taken, begin, finish, record_of, level};
 ghost use Rattle.texml_expand.specs.Expand.{front as spec_front, given as spec_given, fetch as spec_fetch, look as spec_look, expand_once as spec_expand_once, read_int as spec_read_int, read_dimen as spec_read_dimen, read_index as spec_read_index};
-ghost use Rattle.texml_expand.specs.Quantities.{next_looked, as_it_counts};
+ghost use Rattle.texml_expand.specs.Quantities.{next_looked, as_it_counts, int_text, dimension_text};
 ghost use Rattle.texml_expand.specs.Variables.{variable_at as spec_variable_at};
 ghost use Rattle.texml_expand.specs.Quantities.{the as spec_the, internal as spec_internal, internal_of, look as look_in};
 ghost use Rattle.texml_expand.specs.Fronts.{gift_at, gift_sources, GiftWithin, front_at, front_count, FrontWithin, is_undefined as means_nothing, expandable_at, ExpandableWithin, builtin_in, expandable_in, frozen_in, looked_at as looked_at_by, LookedWithin};
 ghost use Rattle.texml_expand.specs.VariableCodes.{internal_at, InternalWithin, HasNumber};
 ghost use Rattle.texml_expand.specs.Machine.{machine_rest};
-ghost use Rattle.texml_expand.specs.Scanning.{Turned};
+ghost use Rattle.texml_expand.specs.Scanning.{Turned, MayGive};
 ghost use Rattle.texml_expand.specs.Held.{state_of, Sound, Kept, Progress, IsAtLimit, ok_at, read_at, ReadWithin, Owns, Holding, SameFiles, Shrinks, Begun};
 ghost use Rattle.texml_expand.specs.Contract.{Local, AnswersKept, Stops, outside, files_at, stop_after};
 ghost use Rattle.texml_expand.specs.Hearing.{hears, hears_part, Meets, FollowsTold};
@@ -567,6 +567,7 @@ impl Engine {
         requires owns { Owns (F.shelf files.old) self.old }
         ensures does { Does (hears T.wanting T.heard) (hears_part T.wanting T.part)
             (λ n. (level n).scan (machine_rest start.entry) []) (result) self.old self.new (outside (F.shelf files.old) (F.faults files.old) (T.faults tell.old) (T.loan tell.old)) (outside (F.shelf files.new) (F.faults files.new) (T.faults tell.new) (T.loan tell.new)) tell.old tell.new }
+        ensures gives { IfOk result (MayGive (machine_rest start.entry)) }
         ensures lower { OnOk result (Shrinks 0 (F.shelf files.old) self.old (F.shelf files.new) self.new) }
     {
         let mut machine = start;
@@ -728,6 +729,7 @@ impl Engine {
         requires owns { Owns (F.shelf files.old) self.old }
         ensures does { Does (hears T.wanting T.heard) (hears_part T.wanting T.part)
             (spec_read_int) (result) self.old self.new (outside (F.shelf files.old) (F.faults files.old) (T.faults tell.old) (T.loan tell.old)) (outside (F.shelf files.new) (F.faults files.new) (T.faults tell.new) (T.loan tell.new)) tell.old tell.new }
+        ensures gives { IfOk result (MayGive int_text) }
         ensures lower { OnOk result (Shrinks 0 (F.shelf files.old) self.old (F.shelf files.new) self.new) }
     {
         match self.scan(files, tell, Machine::Int(IntScan::new()), deep)? {
@@ -749,6 +751,7 @@ impl Engine {
         requires owns { Owns (F.shelf files.old) self.old }
         ensures does { Does (hears T.wanting T.heard) (hears_part T.wanting T.part)
             (spec_read_dimen) (result) self.old self.new (outside (F.shelf files.old) (F.faults files.old) (T.faults tell.old) (T.loan tell.old)) (outside (F.shelf files.new) (F.faults files.new) (T.faults tell.new) (T.loan tell.new)) tell.old tell.new }
+        ensures gives { IfOk result (MayGive dimension_text) }
         ensures lower { OnOk result (Shrinks 0 (F.shelf files.old) self.old (F.shelf files.new) self.new) }
     {
         match self.scan(files, tell, Machine::Dimen(DimenScan::new()), deep)? {

@@ -13,7 +13,7 @@ ghost use Rattle.texml_expand.specs.Variables.{a_character, a_register, internal
 ghost use Rattle.texml_expand.specs.Quantities.{shown as spec_shown, decided_on as spec_decided_on, scan_fault as spec_scan_fault};
 ghost use Rattle.texml_expand.specs.Expand.{read_int as spec_read_int, read_dimen as spec_read_dimen, read_glue as spec_read_glue, read_keyword as spec_read_keyword, read_index as spec_read_index, read_key as spec_read_key};
 ghost use Rattle.texml_expand.specs.VariableCodes.{internal_at, InternalWithin, HasNumber, Names};
-ghost use Rattle.texml_expand.specs.Machine.{scanned_as};
+ghost use Rattle.texml_expand.specs.Machine.{scanned_as, HasValue};
 ghost use Rattle.texml_expand.specs.Scanning.{all_seen_at, SeenWithin};
 ghost use Rattle.std.specs.List.{All};
 ghost use Rattle.texml_expand.specs.Held.{state_of, Sound, Kept, Progress, IsAtLimit, ok_at, Owns, Holding, SameFiles, Shrinks, Puts};
@@ -244,6 +244,7 @@ impl Engine {
         requires within { All (SeenWithin (length self.old.names)) seen.now }
         ensures decides { Local (spec_decided_on (all_seen_at self.old.names seen.now) (scanned_as scanned)) (result) self.old self.new }
         ensures puts { OnOk result (Puts (length seen.now) self.old self.new) }
+        ensures value { IfOk result (λ v. HasValue v scanned) }
         ensures kept { self.new.stop ≡ stop_after result }
         ensures progress { Progress self.old self.new }
         ensures limit { IsAtLimit result self.new }
