@@ -89,10 +89,10 @@ impl Gathered {
     }
 
     /// All of them.
-    pub(crate) fn into_tokens(self) -> Tokens
-        ensures { result ≡ self }
+    pub(crate) fn tokens(&self) -> Result<Tokens, AllocError>
+        ensures { IfOk result (λ list. list ≡ self.now) }
     {
-        self.list
+        self.list.clone()
     }
 }
 
