@@ -25,6 +25,7 @@ pub mod Scanning
 pub mod Printing
 pub mod Counting
 pub mod Judging
+pub mod Faces
 pub mod Fronts
 pub mod Doing
 pub mod Rounds
@@ -34,6 +35,10 @@ pub mod Worth
 pub mod Within
 pub mod Least
 pub mod Fed
+pub mod Stepping
+pub mod Skips
+pub mod Seeks
+pub mod Skipping
 pub mod Groups
 pub mod Sequence
 pub mod Spacing
