@@ -23,6 +23,7 @@ pub mod Meeting
 mod Rows
 pub mod Scanning
 pub mod Printing
+pub mod Counting
 pub mod Judging
 pub mod Faces
 pub mod Fronts

@@ -16,7 +16,7 @@ ghost use Rattle.texml_expand.specs.Expand.{front_taken, begin, finish, record_o
 ghost use Rattle.texml_expand.specs.Expand.{front as spec_front, given as spec_given, fetch as spec_fetch, look as spec_look, expand_once as spec_expand_once, read_int as spec_read_int, read_dimen as spec_read_dimen, read_index as spec_read_index};
 ghost use Rattle.texml_expand.specs.Quantities.{next_looked, as_it_counts, int_text, dimension_text};
 ghost use Rattle.texml_expand.specs.Variables.{variable_at as spec_variable_at};
-ghost use Rattle.texml_expand.specs.Quantities.{the as spec_the, internal as spec_internal, internal_of, look as look_in};
+ghost use Rattle.texml_expand.specs.Quantities.{next_internal as spec_next_internal, the as spec_the, internal as spec_internal, internal_of, look as look_in};
 ghost use Rattle.texml_expand.specs.Fronts.{gift_at, gift_sources, GiftWithin, front_at, front_count, FrontWithin, is_undefined as means_nothing, expandable_at, ExpandableWithin, builtin_in, expandable_in, frozen_in, looked_at as looked_at_by, LookedWithin};
 ghost use Rattle.texml_expand.specs.VariableCodes.{internal_at, InternalWithin, HasNumber};
 ghost use Rattle.texml_expand.specs.Machine.{machine_rest};
@@ -79,7 +79,7 @@ pub(super) enum Gift {
 
 // What stands at the front: nothing, a token that isn't expanded, or one that is, and what it expands as.
 #[derive(Drop)]
-enum Front {
+pub(super) enum Front {
     Nothing,
     Plain(Read),
     Expands(Token, Expandable),
@@ -208,7 +208,7 @@ impl Engine {
     }
 
     // Takes the front.
-    fn front<F: Files>(&mut self, files: &mut F) -> Result<Front, Stop>
+    pub(super) fn front<F: Files>(&mut self, files: &mut F) -> Result<Front, Stop>
         requires running { self.old.stop ≡ None }
         requires sound { Sound self.old }
         requires owns { Owns (F.shelf files.old) self.old }
@@ -279,7 +279,7 @@ impl Engine {
 
     // An expansion of a token.
     #[cycle(expanding)]
-    fn expand<F: Files, T: Teller>(
+    pub(super) fn expand<F: Files, T: Teller>(
         &mut self,
         files: &mut F,
         tell: &mut T,
@@ -302,7 +302,7 @@ impl Engine {
     }
 
     // Begins an expansion.
-    fn begin(&mut self) -> Result<(), Stop>
+    pub(super) fn begin(&mut self) -> Result<(), Stop>
         requires { self.old.stop ≡ None }
         ensures begins { Local begin result self.old self.new }
         ensures kept { self.new.stop ≡ stop_after result }
@@ -325,7 +325,7 @@ impl Engine {
     }
 
     // Ends an expansion, whose gift is put before what is to be read, and tells of it.
-    fn finish<T: Teller>(&mut self, tell: &mut T, token: Token, gift: Gift) -> Result<(), Stop>
+    pub(super) fn finish<T: Teller>(&mut self, tell: &mut T, token: Token, gift: Gift) -> Result<(), Stop>
         requires running { self.old.stop ≡ None }
         requires nested { 1 ≤ self.old.nesting }
         requires token { TokenWithin (length self.old.names) token }
@@ -349,7 +349,7 @@ impl Engine {
     }
 
     // Tells of an expansion, where that is wanted.
-    fn tell_of<T: Teller>(&mut self, tell: &mut T, token: Token, gift: &Gift) -> Result<(), Stop>
+    pub(super) fn tell_of<T: Teller>(&mut self, tell: &mut T, token: Token, gift: &Gift) -> Result<(), Stop>
         requires running { self.old.stop ≡ None }
         requires token { TokenWithin (length self.old.names) token }
         requires gift { GiftWithin (length self.old.names) gift.now }
@@ -380,7 +380,7 @@ impl Engine {
     }
 
     // What an expansion gives is put before what is to be read.
-    fn put_gift(&mut self, gift: &Gift) -> Result<(), AllocError>
+    pub(super) fn put_gift(&mut self, gift: &Gift) -> Result<(), AllocError>
         ensures ok { OnOk result (self.new ≡ record self.old { input = record self.old.input { sources = gift_sources gift.now ++ self.old.input.sources } }) }
         ensures err { OnErr result (self.new ≡ self.old) }
     {
@@ -462,13 +462,23 @@ impl Engine {
                 let list = self.the(files, tell, deep)?;
                 Ok(Gift::Puts(list))
             }
+            Expandable::ExpandAfter => self.expand_after(files, tell, deep),
+            Expandable::NoExpand => self.no_expand(files),
+            Expandable::CsName => self.cs_name(files, tell, deep),
+            Expandable::String => {
+                let list = self.string(files)?;
+                Ok(Gift::Puts(list))
+            }
+            Expandable::JobName => {
+                let list = self.job()?;
+                Ok(Gift::Puts(list))
+            }
             Expandable::Conditional(test) => self.conditional(files, tell, test, deep),
             Expandable::PartEnd(word) => self.part_end(files, token, word),
-            _ => Err(self.no_memory()),
         }
     }
 
-    // What `\the` gives: the quantity or the list of tokens that begins with the next token.
+    // What `\the` gives.
     #[cycle(expanding)]
     fn the<F: Files, T: Teller>(
         &mut self,
@@ -484,6 +494,26 @@ impl Engine {
         ensures lower { OnOk result (Shrinks 0 (F.shelf files.old) self.old (F.shelf files.new) self.new) }
         ensures within { IfOk result (TokensWithin (length self.new.names)) }
     {
+        let internal = self.next_internal(files, tell, deep)?;
+        self.shown(internal)
+    }
+
+    // The quantity or the list of tokens that begins with the next token.
+    #[cycle(expanding)]
+    pub(super) fn next_internal<F: Files, T: Teller>(
+        &mut self,
+        files: &mut F,
+        tell: &mut T,
+        deep: usize,
+    ) -> Result<Internal, Stop>
+        requires running { self.old.stop ≡ None }
+        requires sound { Sound self.old }
+        requires owns { Owns (F.shelf files.old) self.old }
+        ensures does { Does (hears T.wanting T.heard) (hears_part T.wanting T.part)
+            (λ n. spec_next_internal (level n)) (ok_at (internal_at self.new.names) result) self.old self.new (outside (F.shelf files.old) (F.faults files.old) (T.faults tell.old) (T.loan tell.old)) (outside (F.shelf files.new) (F.faults files.new) (T.faults tell.new) (T.loan tell.new)) tell.old tell.new }
+        ensures lower { OnOk result (Shrinks 0 (F.shelf files.old) self.old (F.shelf files.new) self.new) }
+        ensures within { IfOk result (InternalWithin (length self.new.names)) }
+    {
         let looked = match self.next_looked(files, tell, false, deep)? {
             Some(looked) => looked,
             None => return Err(self.bare_fault(fault_code::FILE_ENDED)),
@@ -492,8 +522,7 @@ impl Engine {
             Ok(meaning) => meaning,
             Err(_) => return Err(self.no_memory()),
         };
-        let internal = self.internal(files, tell, &meaning, deep)?;
-        self.shown(internal)
+        self.internal(files, tell, &meaning, deep)
     }
 
     // The next token, as it stands or expanded, and what it counts as.
@@ -540,17 +569,27 @@ impl Engine {
         ensures one { IfOk result (λ o. length (option_to_list o) ≡ 1) }
         ensures within { IfOk result (OptionWithin (LookedWithin (length self.new.names))) }
     {
-        if !read.frozen {
-            return Ok(Some(as_itself(read)));
+        match self.counts_as(read) {
+            Ok(counts) => Ok(Some(Looked {
+                token: read.token,
+                counts,
+            })),
+            Err(_) => Err(self.no_memory()),
         }
-        let meaning = match self.meaning(read.token) {
-            Ok(meaning) => meaning,
-            Err(_) => return Err(self.no_memory()),
-        };
-        Ok(Some(Looked {
-            token: read.token,
-            counts: frozen_as(read.token, meaning),
-        }))
+    }
+
+    // What a token that was taken counts as.
+    pub(super) fn counts_as(&self, read: Read) -> Result<Token, AllocError>
+        requires sound { Sound self.now }
+        requires token { TokenWithin (length self.now.names) read.token }
+        ensures is { IfOk result (λ t. token_at self.now.names t ≡ spec_counts_as (world_in self.now) (read_at self.now.names read)) }
+        ensures within { IfOk result (TokenWithin (length self.now.names)) }
+    {
+        if !read.frozen {
+            return Ok(read.token);
+        }
+        let meaning = self.meaning(read.token)?;
+        Ok(frozen_as(read.token, meaning))
     }
 
     // What a scanner reads: the shortest list of tokens that decides. Those that aren't part of it go back.
