@@ -12,7 +12,7 @@ ghost use Rattle.texml_expand.specs.Take.{meaning_of};
 ghost use Rattle.texml_expand.specs.State.{tell as spec_tell};
 ghost use Rattle.texml_expand.specs.Calls.{expandable, Puts, Freezes};
 ghost use Rattle.texml_expand.specs.Expand.{front_taken, begin, finish, record_of, level};
-ghost use Rattle.texml_expand.specs.Expand.{front as spec_front, given as spec_given, fetch as spec_fetch, look as spec_look, expand_once as spec_expand_once, read_int as spec_read_int, read_dimen as spec_read_dimen, read_index as spec_read_index};
+ghost use Rattle.texml_expand.specs.Expand.{front as spec_front, given as spec_given, fetch as spec_fetch, look as spec_look, expand_once as spec_expand_once, read_int as spec_read_int, read_dimen as spec_read_dimen, read_index as spec_read_index, decimal as spec_decimal, roman_numeral as spec_roman};
 ghost use Rattle.texml_expand.specs.Quantities.{next_looked, as_it_counts, int_text, dimension_text};
 ghost use Rattle.texml_expand.specs.Variables.{variable_at as spec_variable_at};
 ghost use Rattle.texml_expand.specs.Quantities.{next_internal as spec_next_internal, the as spec_the, internal as spec_internal, internal_of, look as look_in};
@@ -477,13 +477,11 @@ impl Engine {
                 Ok(Gift::Puts(list))
             }
             Expandable::Number => {
-                let value = self.int(files, tell, deep)?;
-                let list = self.number(value)?;
+                let list = self.decimal(files, tell, deep)?;
                 Ok(Gift::Puts(list))
             }
             Expandable::RomanNumeral => {
-                let value = self.int(files, tell, deep)?;
-                let list = self.roman_numeral(value)?;
+                let list = self.roman(files, tell, deep)?;
                 Ok(Gift::Puts(list))
             }
             Expandable::The => {
@@ -504,6 +502,46 @@ impl Engine {
             Expandable::Conditional(test) => self.conditional(files, tell, test, deep),
             Expandable::PartEnd(word) => self.part_end(files, token, word),
         }
+    }
+
+    // What `\number` gives: the digits of a number.
+    #[cycle(expanding)]
+    fn decimal<F: Files, T: Teller>(
+        &mut self,
+        files: &mut F,
+        tell: &mut T,
+        deep: usize,
+    ) -> Result<Tokens, Stop>
+        requires running { self.old.stop ≡ None }
+        requires sound { Sound self.old }
+        requires owns { Owns (F.shelf files.old) self.old }
+        ensures does { Does (hears T.wanting T.heard) (hears_part T.wanting T.part)
+            (λ n. spec_decimal (level n)) (ok_at (tokens_at self.new.names) result) self.old self.new (outside (F.shelf files.old) (F.faults files.old) (T.faults tell.old) (T.loan tell.old)) (outside (F.shelf files.new) (F.faults files.new) (T.faults tell.new) (T.loan tell.new)) tell.old tell.new }
+        ensures lower { OnOk result (Shrinks 0 (F.shelf files.old) self.old (F.shelf files.new) self.new) }
+        ensures within { IfOk result (TokensWithin (length self.new.names)) }
+    {
+        let value = self.int(files, tell, deep)?;
+        self.number(value)
+    }
+
+    // What `\romannumeral` gives: a number in Roman numerals.
+    #[cycle(expanding)]
+    fn roman<F: Files, T: Teller>(
+        &mut self,
+        files: &mut F,
+        tell: &mut T,
+        deep: usize,
+    ) -> Result<Tokens, Stop>
+        requires running { self.old.stop ≡ None }
+        requires sound { Sound self.old }
+        requires owns { Owns (F.shelf files.old) self.old }
+        ensures does { Does (hears T.wanting T.heard) (hears_part T.wanting T.part)
+            (λ n. spec_roman (level n)) (ok_at (tokens_at self.new.names) result) self.old self.new (outside (F.shelf files.old) (F.faults files.old) (T.faults tell.old) (T.loan tell.old)) (outside (F.shelf files.new) (F.faults files.new) (T.faults tell.new) (T.loan tell.new)) tell.old tell.new }
+        ensures lower { OnOk result (Shrinks 0 (F.shelf files.old) self.old (F.shelf files.new) self.new) }
+        ensures within { IfOk result (TokensWithin (length self.new.names)) }
+    {
+        let value = self.int(files, tell, deep)?;
+        self.roman_numeral(value)
     }
 
     // What `\the` gives.
