@@ -8,6 +8,6 @@ pub mod Worlds
 pub mod ParameterTexts
 pub mod Macros
 pub mod Quantities
-pub mod Letters
+pub mod LetterCases
 pub mod NewConditionals
 mod Rows

@@ -1,4 +1,4 @@
-use Rattle.std.proofs.Common.{sym, ap, ◌∙◌, subst, rules}
+use Rattle.std.proofs.Common.{ap, ◌∙◌, subst}
 use Rattle.texml_expand.specs.Contract.{Silent}
 use Rattle.texml_expand.specs.Held.{state_of}
 use Rattle.texml_assign.specs.Targets.{target_of}

@@ -1,19 +1,12 @@
-use Rattle.std.proofs.Common.{Bool, true, false, if◌then◌else◌, Ok, Err, None, Some, Option, refl, sym, ap, subst, ◌∙◌, rules, arith, pos, codes, FitsSigned, w32}
-use Rattle.std.specs.Option.{option_map}
+use Rattle.std.proofs.Common.{Ok, Err, refl, rules, pos, w32}
 use Rattle.texml_scope.specs.declared.values.ValueOf.TheVariants as values
-use Rattle.texml_scope.specs.Numbers.{key_at, meaning_at, value_at}
-use Rattle.texml_token.specs.Numbers.{token_at, tokens_at}
-use Rattle.texml_expand.specs.State.{give, fail, change, Done, Ended, nothing}
-use Rattle.texml_expand.specs.Held.{state_of}
-use Rattle.texml_expand.specs.Contract.{Silent}
-use Rattle.texml_expand.specs.Fronts.{looked_at}
 use Rattle.texml_expand.specs.Hearing.{hears, hears_part}
-use Rattle.texml_expand.specs.Expand.{fetch, read_int, read_dimen, read_glue, read_keyword, read_index}
+use Rattle.texml_expand.specs.Expand.{read_index}
 use Rattle.texml_expand.specs.declared.variables.Index.TheVariants as index
 use Rattle.texml_assign.proofs.Readings.{lawful_plain, plain_give}
-use Rattle.texml_assign.proofs.Doing.{does_call, does_then, does_stop, does_now, does_silent, does_fault, does_out, advances_stopped}
+use Rattle.texml_assign.proofs.Doing.{does_call, does_then, does_stop, does_now}
 use Rattle.texml_assign.proofs.Quantities.{lawful_index_of, scalar_low, code_value}
-use Rattle.std.proofs.lemmas.Int.{to_z-of_z, to_z_pos}
+use Rattle.std.proofs.lemmas.Int.{to_z_pos}
 use Rattle.texml_assign.proofs.assignments.next_code.Goals as goal
 
 pub returns-in_err-code-clause-does : goal.returns-in_err-code-clause-does

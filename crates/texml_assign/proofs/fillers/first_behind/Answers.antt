@@ -1,14 +1,12 @@
-use Rattle.std.proofs.Common.{Bool, true, false, if◌then◌else◌, Ok, Err, None, Some, Option, refl, sym, ap, ◌∙◌, rules, arith}
+use Rattle.std.proofs.Common.{Bool, if◌then◌else◌, Ok, Err, None, Some, refl, sym, ap, ◌∙◌, rules, arith}
 use Rattle.std.specs.Option.{option_map}
 use Rattle.texml_expand.specs.State.{Done, give, nothing}
 use Rattle.texml_expand.specs.Held.{state_of}
-use Rattle.texml_expand.specs.Take.{means}
 use Rattle.texml_expand.specs.Fronts.{looked_at}
-use Rattle.texml_expand.specs.Quantities.{Looked}
 use Rattle.texml_expand.specs.Expand.{look}
 use Rattle.texml_expand.specs.Hearing.{hears, hears_part}
-use Rattle.texml_assign.specs.Loop.{Next, On, Over}
-use Rattle.texml_assign.specs.Fillers.{fills, filler_turn, filler_loop}
+use Rattle.texml_assign.specs.Loop.{On, Over}
+use Rattle.texml_assign.specs.Fillers.{filler_turn, filler_loop}
 use Rattle.texml_assign.proofs.Readings.{plain_give}
 use Rattle.texml_assign.proofs.Doing.{does_call, does_now, does_out, goes_stops, goes_ends, goes_turn_stops, goes_over, goes_on}
 use Rattle.texml_assign.proofs.Quantities.{plain_filler_turn, filler_laws}

@@ -2,7 +2,7 @@ use Rattle.std.proofs.Common.{sym, ap, ◌∙◌, length}
 use Rattle.texml_scope.specs.Values.{number_in}
 use Rattle.texml_expand.specs.Held.{state_of}
 use Rattle.texml_assign.specs.Letters.{code_or}
-use Rattle.texml_assign.proofs.Letters.{number_same}
+use Rattle.texml_assign.proofs.LetterCases.{number_same}
 use Rattle.texml_assign.proofs.letters.code_in.Goals as goal
 
 pub value-requires-clause-key : goal.value-requires-clause-key

@@ -10,7 +10,7 @@ use Rattle.texml_assign.specs.Letters.{group_from}
 use Rattle.texml_assign.proofs.Readings.{lawful_plain}
 use Rattle.texml_assign.proofs.Doing.{does_then, does_stop, does_silent, advances_stopped}
 use Rattle.texml_assign.proofs.Quantities.{plain_list_start}
-use Rattle.texml_assign.proofs.Letters.{lawful_group_from}
+use Rattle.texml_assign.proofs.LetterCases.{lawful_group_from}
 use Rattle.texml_assign.proofs.letters.group_by.Goals as goal
 
 pub returns-in_err-start-clause-does : goal.returns-in_err-start-clause-does

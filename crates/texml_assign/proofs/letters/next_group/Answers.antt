@@ -1,4 +1,4 @@
-use Rattle.std.proofs.Common.{Option, rules}
+use Rattle.std.proofs.Common.{rules}
 use Rattle.std.specs.Option.{option_map}
 use Rattle.texml_token.specs.Numbers.{tokens_at}
 use Rattle.texml_expand.specs.Held.{ok_at}
@@ -8,7 +8,7 @@ use Rattle.texml_assign.specs.Fillers.{first_behind}
 use Rattle.texml_assign.specs.Letters.{group_by}
 use Rattle.texml_assign.proofs.Doing.{does_then, does_stop}
 use Rattle.texml_assign.proofs.Quantities.{lawful_first}
-use Rattle.texml_assign.proofs.Letters.{lawful_group_by}
+use Rattle.texml_assign.proofs.LetterCases.{lawful_group_by}
 use Rattle.texml_assign.proofs.letters.next_group.Goals as goal
 
 pub returns-in_err-first-clause-does : goal.returns-in_err-first-clause-does

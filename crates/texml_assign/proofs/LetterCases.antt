@@ -1,17 +1,15 @@
 -- Lists whose characters get other codes: what is read of them has one answer, and no more is put back than was taken.
-use Rattle.std.proofs.Common.{◌≡◌, ◌+◌, ℕ, ℤ, pos, negsuc, zero, suc, false, List, [], ◌∷◌, ◌++◌, map, length, length-map, Option, Some, None, refl, sym, ap, ◌∙◌, subst, arith}
+use Rattle.std.proofs.Common.{◌≡◌, ◌+◌, ℕ, false, List, [], ◌∷◌, ◌++◌, map, length, Option, refl, sym, ap, ◌∙◌, arith}
 use Rattle.std.proofs.Common.{◌<◌, ◌≤◌, take, get_or, ap₂}
-use Rattle.std.proofs.lemmas.List.{map-append, take_more, take_all}
+use Rattle.std.proofs.lemmas.List.{map-append, length-map, take_more, take_all}
 use Rattle.texml_token.specs.Token.{Token}
 use Rattle.texml_token.specs.Numbers.{Table, token_at, tokens_at}
 use Rattle.texml_token.specs.declared.tokens.Token.{Token as TokenCode}
-use Rattle.texml_scope.specs.Texts.{World}
 use Rattle.texml_scope.specs.Shown.{ValueCode}
 use Rattle.texml_scope.specs.Values.{number_in}
 use Rattle.texml_scope.specs.Numbers.{value_at}
 use Rattle.texml_scope.specs.declared.values.ValueOf.TheVariants as values
-use Rattle.texml_expand.specs.State.{State, room, Reading, change, IsDecided, fail}
-use Rattle.texml_expand.specs.Expand.{ByDepth, put}
+use Rattle.texml_expand.specs.State.{State, change, fail}
 use Rattle.texml_expand.specs.Contract.{Lower}
 use Rattle.texml_expand.specs.Absorb.{absorb}
 use Rattle.texml_expand.specs.Quantities.{Looked}
@@ -68,7 +66,7 @@ group_leaves n s =
 put_lower : (case : Case) (list : List Token) (s t : State) → Lower (length list) s t → Lower 0 s (put_in_case case list t)
 put_lower case list s t low =
     let many = size_put (map (token_in case t.world) list) t.rest in
-    let same = length-map (token_in case t.world) list in
+    let same = length-map list (token_in case t.world) in
     record {
       limit = low.limit;
       nesting = low.nesting;
