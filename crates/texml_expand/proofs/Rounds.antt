@@ -1,5 +1,5 @@
 -- Fetching and expanding, step by step.
-use Rattle.std.proofs.Common.{◌≡◌, ◌∙◌, ◌+◌, ◌-◌, ◌++◌, map, length, ◌≤◌, ◌<◌, ℕ, Bool, List, Option, Some, None, Result, Ok, Err, sym, ap, subst, arith}
+use Rattle.std.proofs.Common.{◌≡◌, ◌+◌, ◌-◌, ◌++◌, map, length, ◌≤◌, ◌<◌, ℕ, Bool, List, Option, Some, None, Result, Ok, Err, sym, subst, arith}
 use Rattle.std.specs.Result.{OnOk}
 use Rattle.texml_token.specs.Token.{Token}
 use Rattle.texml_token.specs.declared.tokens.Token.{Token as TokenCode}
@@ -9,14 +9,13 @@ use Rattle.texml_expand.specs.declared.stop.Stop.{Stop}
 use Rattle.texml_base.specs.Outside.{Shelf}
 use Rattle.texml_input.specs.Held.{Plain}
 use Rattle.texml_input.specs.Next.{Taken}
-use Rattle.texml_expand.specs.State.{State, nothing, Done}
 use Rattle.texml_expand.specs.declared.variables.Index.{Index}
 use Rattle.texml_expand.specs.Calls.{Expandable}
 use Rattle.texml_expand.specs.Quantities.{Looked, read_index, next_looked}
 use Rattle.texml_expand.specs.Expand.{Front, Nothing, Plain, Expands, front, begin, given, finish, expand_by, fetch_front, level}
 use Rattle.texml_expand.specs.declared.engine.expanding.Front.{Front as FrontCode}
 use Rattle.texml_expand.specs.Fronts.{front_at}
-use Rattle.texml_expand.specs.Held.{Held, state_of, Sound, Kept, Progress, IsAtLimit, Owns, Holding, SameFiles, Shrinks, Begun}
+use Rattle.texml_expand.specs.Held.{Held, state_of, Sound, Progress, IsAtLimit, Owns, SameFiles, Shrinks, Begun}
 use Rattle.texml_expand.specs.Contract.{Local, Outside, outside, files_at, Stops, stop_after}
 use Rattle.texml_expand.specs.Hearing.{Meets}
 use Rattle.texml_expand.specs.Doing.{Does, Gets}
