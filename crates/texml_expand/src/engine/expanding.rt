@@ -404,7 +404,7 @@ impl Engine {
     }
 
     // Tells of an expansion, where that is wanted.
-    fn tell_of<T: Teller>(&mut self, tell: &mut T, token: Token, list: &Tokens) -> Result<(), Stop>
+    pub(super) fn tell_of<T: Teller>(&mut self, tell: &mut T, token: Token, list: &Tokens) -> Result<(), Stop>
         requires running { self.old.stop ≡ None }
         requires token { TokenWithin (length self.old.names) token }
         requires list { TokensWithin (length self.old.names) list.now }
