@@ -18,6 +18,7 @@ ghost use Rattle.texml_expand.specs.Variables.{variable_at as spec_variable_at};
 ghost use Rattle.texml_expand.specs.Quantities.{next_internal as spec_next_internal, the as spec_the, internal as spec_internal, internal_of, look as look_in};
 ghost use Rattle.texml_expand.specs.Fronts.{gift_at, GiftWithin, front_at, front_count, FrontWithin, is_undefined as means_nothing, expandable_at, ExpandableWithin, builtin_in, expandable_in, frozen_in, looked_at as looked_at_by, LookedWithin};
 ghost use Rattle.texml_expand.specs.VariableCodes.{internal_at, InternalWithin, HasNumber};
+ghost use Rattle.texml_expand.specs.declared.engine.expanding.TheConstants.{DEEPEST};
 ghost use Rattle.texml_expand.specs.Machine.{machine_rest};
 ghost use Rattle.texml_expand.specs.Scanning.{Turned, MayGive};
 ghost use Rattle.texml_expand.specs.Held.{state_of, Sound, Kept, Progress, IsAtLimit, ok_at, read_at, ReadWithin, Owns, Holding, SameFiles, Shrinks, Begun};
@@ -307,6 +308,7 @@ impl Engine {
         ensures kept { self.new.stop ≡ stop_after result }
         ensures is { OnOk result (self.new ≡ record self.old { begun = self.old.begun + 1; nesting = self.old.nesting + 1 }) }
         ensures within { OnOk result (self.new.begun ≤ self.new.limit) }
+        ensures nested { OnOk result (self.new.nesting ≤ DEEPEST) }
         ensures progress { Progress self.old self.new }
         ensures limit { IsAtLimit result self.new }
         ensures files { SameFiles self.old self.new }

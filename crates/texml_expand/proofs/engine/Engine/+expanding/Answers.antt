@@ -1,11 +1,11 @@
-use Rattle.std.proofs.Common.{arith, [], FitsSigned, w32, refl, sym, ap, subst, ◌∙◌, rules, pos, true, false, None, Some, Ok, Err, ◌∷◌, List, ◌≡◌}
+use Rattle.std.proofs.Common.{arith, length, [], FitsSigned, w32, refl, sym, ap, subst, ◌∙◌, rules, pos, true, false, None, Some, Ok, Err, ◌∷◌, List, ◌≡◌}
 use Rattle.std.specs.Fmt.{signed_decimal}
 use Rattle.std.proofs.lemmas.Int.{to_z-of_z}
 use Rattle.texml_expand.specs.Contract.{outside, Local}
 use Rattle.texml_token.specs.Numbers.{Extends, token_at, tokens_at}
 use Rattle.texml_token.proofs.Translation.{token_kept}
 use Rattle.texml_expand.specs.Held.{Held, state_of, ok_at, read_at}
-use Rattle.texml_expand.specs.Fronts.{macro_at, expandable_at, looked_at}
+use Rattle.texml_expand.specs.Fronts.{macro_at, expandable_at, looked_at, ExpandableWithin}
 use Rattle.texml_expand.specs.declared.variables.Index.TheVariants.{Character, Register}
 use Rattle.texml_expand.specs.State.{give}
 use Rattle.texml_expand.specs.Calls.{Call}
@@ -31,11 +31,11 @@ use Rattle.texml_expand.specs.Take.{take}
 use Rattle.texml_expand.specs.Doing.{Does}
 use Rattle.texml_expand.proofs.Total.{total}
 use Rattle.texml_expand.proofs.Progress.{progress_itself}
-use Rattle.texml_expand.proofs.Fronts.{kept_itself}
+use Rattle.texml_expand.proofs.Fronts.{kept_itself, begun_kept}
 use Rattle.texml_scan.specs.Looked.{look_of}
 use Rattle.texml_scan.specs.declared.looks.Held.TheVariants.{Nothing}
 use Rattle.texml_expand.proofs.Stopping.{passed_on}
-use Rattle.texml_expand.proofs.Running.{shrinks_none, shrinks_then, files_same}
+use Rattle.texml_expand.proofs.Running.{shrinks_none, shrinks_then, files_same, ok_same, owns_same}
 use Rattle.texml_expand.proofs.Showing.{the_stops, the_ends, the_behind, shown_stops, shown_then}
 use Rattle.texml_scan.specs.declared.looks.Look.{Look}
 use Rattle.texml_scan.specs.Grammar.{verdict}
@@ -649,3 +649,20 @@ look_by-returns-in_default g t c =
     let is = ap (λ l. r (l ∷ [])) (sym first) ∙ c.turn.ensures.is in
     let d = look_now (hears T.wanting T.heard) (hears_part T.wanting T.part) r t m c.turn.result mine (outside (F.shelf files) (F.faults files) (T.faults tell) (T.loan tell)) tell c.requires.sound c.requires.running c.requires.owns c.in-Ok.ensures.means is c.in_default.not-Asked in
     record { does = subst (λ l. Does (hears T.wanting T.heard) (hears_part T.wanting T.part) (λ n. look (level n) r [] t) (Ok l) mine mine (outside (F.shelf files) (F.faults files) (T.faults tell) (T.loan tell)) (outside (F.shelf files) (F.faults files) (T.faults tell) (T.loan tell)) tell tell) (sym first) d; turned = record { is = c.turn.ensures.is; on = c.turn.ensures.on }; lower = shrinks_none (F.shelf files) mine }
+
+pub expand-given-requires : goal.expand-given-requires
+expand-given-requires g t c κs within =
+    let b = c.in_ok-begin.ensures in
+    let mine = c.args.self.now in
+    let mid = c.begin.new.self in
+    let kept = begun_kept mine mid b.is b.within c.requires.sound in
+    let owns = owns_same (g.F.Files.shelf c.args.files.now) mine mid c.requires.owns b.files in
+    let found = subst (λ (h : Held). ExpandableWithin (length h.names) c.args.found) (sym b.is) c.requires.found in
+    let nesting = ap (λ (h : Held). h.nesting) b.is in
+    let deep = b.nested in
+    (omega (arith, c.decreases, nesting, deep), (within.0, (within.1, (b.kept, (kept.sound, (owns, found))))))
+
+pub the-returns-clause-lower : goal.the-returns-clause-lower
+the-returns-clause-lower g t c =
+    let first = rw c.in-Some.is at c.in_ok-looked.ensures.lower in
+    ok_same c.shown.result 0 _ _ _ c.internal.new.self c.shown.new.self (shrinks_then 1 0 0 _ _ _ _ c.next_looked.new.self _ first c.in_ok-internal.ensures.lower (omega arith)) c.shown.ensures.same
