@@ -1,6 +1,3 @@
-use Rattle.texml_expand.proofs.Testing.{conditional_does}
-use Rattle.texml_expand.proofs.Gifts.{puts_does}
-use Rattle.texml_expand.proofs.Rounds.{given_as}
 use Rattle.std.proofs.Common.{rules}
 use Rattle.texml_expand.proofs.Comparing.{second_stops, are_compared, comparing_out}
 use Rattle.texml_expand.proofs.engine.Engine.same_meanings.Goals as goal
