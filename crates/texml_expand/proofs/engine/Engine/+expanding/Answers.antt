@@ -16,7 +16,7 @@ use Rattle.texml_expand.specs.Quantities.{int_text, read_index, look, read_key, 
 use Rattle.texml_expand.specs.Expand.{front, given, level}
 use Rattle.texml_expand.specs.Hearing.{hears, hears_part}
 use Rattle.texml_expand.proofs.Lawful.{lawful_give, lawful_scan, lawful_fetch}
-use Rattle.texml_expand.proofs.Looking.{lawful_character, lawful_register, value, lawful_value, lawful_index, lawful_look, lawful_key, lawful_internal_of, lawful_internal, counts, lawful_counts, lawful_take, shown_now, lawful_shown_now}
+use Rattle.texml_expand.proofs.Looking.{lawful_character, lawful_register, value, lawful_value, lawful_index, lawful_look, lawful_key, lawful_internal_of, lawful_internal, counts, lawful_counts, lawful_take}
 use Rattle.texml_expand.proofs.Doing.{by_new, did_silent, did_gets, does_silent, does_gets, does_as, does_now, does_stop, does_then, does_out, does_fault, did_out}
 use Rattle.texml_expand.proofs.Rounds.{index_as, front_did, given_as, begins_did, finish_did, expand_stops, expand_ungiven, expand_ends, fetch_stops, fetch_ends, fetch_plain, fetching_on, fetch_unexpanded, looked_as}
 use Rattle.texml_scope.specs.Numbers.{key_at, meaning_at}
@@ -36,7 +36,7 @@ use Rattle.texml_scan.specs.Looked.{look_of}
 use Rattle.texml_scan.specs.declared.looks.Held.TheVariants.{Nothing}
 use Rattle.texml_expand.proofs.Stopping.{passed_on}
 use Rattle.texml_expand.proofs.Running.{shrinks_none, shrinks_then, files_same, ok_same, owns_same}
-use Rattle.texml_expand.proofs.Showing.{the_stops, the_ends, the_behind, shown_stops, shown_then}
+use Rattle.texml_expand.proofs.Showing.{internal_stops, internal_ends, internal_out, internal_begins, the_stops, the_does}
 use Rattle.texml_scan.specs.declared.looks.Look.{Look}
 use Rattle.texml_scan.specs.Grammar.{verdict}
 use Rattle.texml_expand.proofs.Worth.{scan_stop, scan_of, scan_gives, gives_of, int_same}
@@ -770,64 +770,52 @@ scan-tokens-preserved g t c =
     let l = c.tokens.invariant in
     record { on = rw c.in-Ok.ensures.items on; begun = sym c.begun.ensures ∙ c.if-begun.false; same = l.same; limit = k.does.progress.limit ∙ d.progress.limit ∙ l.limit }
 
-pub the-returns-clause-does : goal.the-returns-clause-does
-the-returns-clause-does g t c =
-    let T = g.T.Teller in
-    let F = g.F.Files in
-    let mid = c.next_looked.new.self in
-    let tell = c.next_looked.new.tell in
-    let files = c.next_looked.new.files in
-    let x = looked_at mid.names c.in-Some.looked in
-    let d = rw c.in-Some.is at c.in_ok-looked.ensures.does in
-    let m = meaning_at mid.names c.in-Ok.meaning in
-    let e = c.shown.ensures in
-    let now = c.internal.new.self in
-    let new = c.shown.new.self in
-    let last = c.internal.new.tell in
-    let held_files = c.internal.new.files in
-    let q = internal_at now.names c.in_ok-internal.internal in
-    let u = does_as (hears T.wanting T.heard) (hears_part T.wanting T.part) (tokens_at new.names) (λ c. give (shown q)) (lawful_give (shown q)) c.shown.result now new (outside (F.shelf held_files) (F.faults held_files) (T.faults last) (T.loan last)) last (by_new tokens_at (give (shown q)) c.shown.result now new e.writes e.same) e.kept e.limit e.keeps e.progress e.files c.in_ok-internal.ensures.does.holds.owns in
-    let k = shown_then (hears T.wanting T.heard) (hears_part T.wanting T.part) x m q _ _ _ _ _ _ _ _ _ _ c.in-Ok.ensures.means c.in_ok-internal.ensures.does u in
-    the_behind (hears T.wanting T.heard) (hears_part T.wanting T.part) x _ _ _ _ _ _ _ _ _ _ d k
-
-pub the-returns-in-Err-clause-does : goal.the-returns-in-Err-clause-does
-the-returns-in-Err-clause-does g t c =
-    let T = g.T.Teller in
-    let F = g.F.Files in
-    let mid = c.next_looked.new.self in
-    let tell = c.next_looked.new.tell in
-    let files = c.next_looked.new.files in
-    let x = looked_at mid.names c.in-Some.looked in
-    let d = rw c.in-Some.is at c.in_ok-looked.ensures.does in
-    let e = c.no_memory.ensures in
-    let k = does_out (hears T.wanting T.heard) (hears_part T.wanting T.part) (shown_now x) (lawful_shown_now x) c.no_memory.result mid c.no_memory.new.self (outside (F.shelf files) (F.faults files) (T.faults tell) (T.loan tell)) tell e.is e.kept d.holds.owns in
-    the_behind (hears T.wanting T.heard) (hears_part T.wanting T.part) x _ _ _ _ _ _ _ _ _ _ d k
-
-pub the-returns-in-None-clause-does : goal.the-returns-in-None-clause-does
-the-returns-in-None-clause-does g t c =
-    let T = g.T.Teller in
-    let F = g.F.Files in
-    let d = rw c.in-None.is at c.in_ok-looked.ensures.does in
-    the_ends (hears T.wanting T.heard) (hears_part T.wanting T.part) c.bare_fault.result _ c.next_looked.new.self c.bare_fault.new.self _ _ _ _ d c.bare_fault.ensures.is c.bare_fault.ensures.kept
-
 pub the-returns-in_err-internal-clause-does : goal.the-returns-in_err-internal-clause-does
 the-returns-in_err-internal-clause-does g t c =
     let T = g.T.Teller in
     let F = g.F.Files in
-    let mid = c.next_looked.new.self in
-    let tell = c.next_looked.new.tell in
-    let files = c.next_looked.new.files in
-    let x = looked_at mid.names c.in-Some.looked in
-    let d = rw c.in-Some.is at c.in_ok-looked.ensures.does in
-    let m = meaning_at mid.names c.in-Ok.meaning in
-    let k = shown_stops (hears T.wanting T.heard) (hears_part T.wanting T.part) x m _ _ _ _ _ _ _ c.in-Ok.ensures.means c.in_err-internal.ensures.does in
-    let h = the_behind (hears T.wanting T.heard) (hears_part T.wanting T.part) x _ _ _ _ _ _ _ _ _ _ d k in
+    let h = the_stops (hears T.wanting T.heard) (hears_part T.wanting T.part) _ _ _ _ _ _ _ c.in_err-internal.ensures.does in
     search (rules, h)
 
-pub the-returns-in_err-looked-clause-does : goal.the-returns-in_err-looked-clause-does
-the-returns-in_err-looked-clause-does g t c =
-    let h = the_stops _ _ _ _ _ _ _ _ _ c.in_err-looked.ensures.does in
+pub the-returns-clause-does : goal.the-returns-clause-does
+the-returns-clause-does g t c =
+    let T = g.T.Teller in
+    let F = g.F.Files in
+    let e = c.shown.ensures in
+    let mid = c.next_internal.new.self in
+    let new = c.shown.new.self in
+    let last = c.next_internal.new.tell in
+    let files = c.next_internal.new.files in
+    let q = internal_at mid.names c.in_ok-internal.internal in
+    let u = does_as (hears T.wanting T.heard) (hears_part T.wanting T.part) (tokens_at new.names) (λ c. give (shown q)) (lawful_give (shown q)) c.shown.result mid new (outside (F.shelf files) (F.faults files) (T.faults last) (T.loan last)) last (by_new tokens_at (give (shown q)) c.shown.result mid new e.writes e.same) e.kept e.limit e.keeps e.progress e.files c.in_ok-internal.ensures.does.holds.owns in
+    the_does (hears T.wanting T.heard) (hears_part T.wanting T.part) q _ _ _ _ _ _ _ _ _ _ c.in_ok-internal.ensures.does u
+
+pub next_internal-returns-in_err-looked-clause-does : goal.next_internal-returns-in_err-looked-clause-does
+next_internal-returns-in_err-looked-clause-does g t c =
+    let T = g.T.Teller in
+    let F = g.F.Files in
+    let h = internal_stops (hears T.wanting T.heard) (hears_part T.wanting T.part) _ _ _ _ _ _ _ c.in_err-looked.ensures.does in
     search (rules, h)
+
+pub next_internal-returns-in-None-clause-does : goal.next_internal-returns-in-None-clause-does
+next_internal-returns-in-None-clause-does g t c =
+    let T = g.T.Teller in
+    let F = g.F.Files in
+    internal_ends (hears T.wanting T.heard) (hears_part T.wanting T.part) c.bare_fault.result _ c.next_looked.new.self c.bare_fault.new.self _ _ _ _ (rw c.in-None.is at c.in_ok-looked.ensures.does) c.bare_fault.ensures.is c.bare_fault.ensures.kept
+
+pub next_internal-returns-in-Err-clause-does : goal.next_internal-returns-in-Err-clause-does
+next_internal-returns-in-Err-clause-does g t c =
+    let T = g.T.Teller in
+    let F = g.F.Files in
+    let mid = c.next_looked.new.self in
+    internal_out (hears T.wanting T.heard) (hears_part T.wanting T.part) (looked_at mid.names c.in-Some.looked) c.no_memory.result _ mid c.no_memory.new.self _ _ _ _ (rw c.in-Some.is at c.in_ok-looked.ensures.does) c.no_memory.ensures.is c.no_memory.ensures.kept
+
+pub next_internal-returns-clause-does : goal.next_internal-returns-clause-does
+next_internal-returns-clause-does g t c =
+    let T = g.T.Teller in
+    let F = g.F.Files in
+    let mid = c.next_looked.new.self in
+    internal_begins (hears T.wanting T.heard) (hears_part T.wanting T.part) (looked_at mid.names c.in-Some.looked) (meaning_at mid.names c.in-Ok.meaning) _ _ _ _ _ _ _ _ _ _ (rw c.in-Some.is at c.in_ok-looked.ensures.does) c.in-Ok.ensures.means c.internal.ensures.does
 
 pub look_by-returns-in_default : goal.look_by-returns-in_default
 look_by-returns-in_default g t c =
