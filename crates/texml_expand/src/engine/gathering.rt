@@ -162,12 +162,7 @@ impl Engine {
             Ok(parts) => parts,
             Err(_) => return Err(self.no_memory()),
         };
-        match self.input.push_tokens(&parts.back) {
-            Ok(()) => {}
-            Err(_) => return Err(self.no_memory()),
-        }
-        self.nesting -= 1;
-        self.tell_of(tell, token, &parts.told)?;
+        self.finish_with(tell, token, &parts.back, &parts.told)?;
         Ok(parts.kept)
     }
 
