@@ -1112,4 +1112,3 @@ conditional-returns-clause-does g t c =
     let T = g.T.Teller in
     let F = g.F.Files in
     conditional_does (hears T.wanting T.heard) (hears_part T.wanting T.part) c.args.test c.in_ok-at.at _ _ _ _ _ _ (does_silent (hears T.wanting T.heard) (hears_part T.wanting T.part) (λ c'. open_test) lawful_open_test _ c.args.self.now c.open_test.new.self (outside (F.shelf c.args.files.now) (F.faults c.args.files.now) (T.faults c.args.tell.now) (T.loan c.args.tell.now)) c.args.tell.now (c.in_ok-at.ensures.opens (F.shelf c.args.files.now)) c.in_ok-at.ensures.kept c.in_ok-at.ensures.limit c.in_ok-at.ensures.keeps c.in_ok-at.ensures.progress c.in_ok-at.ensures.files c.requires.owns) c.in_ok-choice.choice _ _ _ _ _ _ c.in_ok-choice.ensures.does (does_gets (hears T.wanting T.heard) (hears_part T.wanting T.part) (λ c'. chosen c.in_ok-at.at c.in_ok-choice.choice) (lawful_chosen c.in_ok-at.at c.in_ok-choice.choice) _ c.tested.new.self c.chosen.new.self _ _ _ _ (T.faults c.tested.new.tell) (T.loan c.tested.new.tell) c.tested.new.tell c.in_ok-chosen.ensures.gets)
-
