@@ -41,6 +41,10 @@ pub mod Stepping
 pub mod Skips
 pub mod Seeks
 pub mod Skipping
+pub mod Seeking
+pub mod Comparing
+pub mod Gifts
+pub mod Testing
 pub mod Groups
 pub mod Sequence
 pub mod Spacing

@@ -17,7 +17,7 @@ ghost use Rattle.texml_expand.specs.Doing.{Does};
 
 use super::Engine;
 use super::arguments::is_sign;
-use super::expanding::{Expandable, Front, Gift};
+use super::expanding::{Expandable, Front};
 use crate::feeding::Verdict;
 use crate::gathering::{Gathered, Gathering, doubled};
 use crate::internal::Internal;
@@ -162,12 +162,12 @@ impl Engine {
             Ok(parts) => parts,
             Err(_) => return Err(self.no_memory()),
         };
-        match self.put_gift(&Gift::Puts(parts.back)) {
+        match self.input.push_tokens(&parts.back) {
             Ok(()) => {}
             Err(_) => return Err(self.no_memory()),
         }
         self.nesting -= 1;
-        self.tell_of(tell, token, &Gift::Puts(parts.told))?;
+        self.tell_of(tell, token, &parts.told)?;
         Ok(parts.kept)
     }
 
