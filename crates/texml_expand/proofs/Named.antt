@@ -1,8 +1,12 @@
 -- A name is made of characters: the table of names grows, and the name may get a meaning.
-use Rattle.std.proofs.Common.{◌≡◌, ◌+◌, ◌≤◌, ℕ, Bool, true, false, if◌then◌else◌, List, length, refl, sym, ap, ◌∙◌, subst, arith}
+use Rattle.std.proofs.Common.{◌≡◌, ◌+◌, ◌≤◌, ℕ, Bool, true, false, if◌then◌else◌, zero, suc, List, [], ◌∷◌, length, Result, Ok, Err, refl, sym, ap, ◌∙◌, subst, arith}
 use Rattle.std.specs.Prelude.{sum_by}
+use Rattle.std.specs.Result.{OnOk, IfOk}
 use Rattle.texml_base.specs.Outside.{Shelf}
-use Rattle.texml_token.specs.Numbers.{Table, Extends, Numbered, text_at}
+use Rattle.texml_token.specs.Token.{Named}
+use Rattle.texml_token.specs.Numbers.{Table, Extends, Numbered, text_at, name_at, tokens_at}
+use Rattle.texml_token.specs.declared.tokens.Token.{Token as TokenCode}
+use Rattle.texml_token.specs.declared.tokens.Token.TheVariants as tokens
 use Rattle.texml_token.specs.declared.tokens.Name.{Name as NameCode}
 use Rattle.texml_scope.specs.Groups.{set_local}
 use Rattle.texml_scope.specs.Shown.{Shown, ValueCode, world_of}
@@ -13,7 +17,7 @@ use Rattle.texml_scope.specs.declared.builtins.TheConstants.{RELAX}
 use Rattle.texml_scope.specs.declared.values.KeyOf.TheVariants.{Name}
 use Rattle.texml_scope.specs.declared.values.ValueOf.TheVariants.{Means}
 use Rattle.texml_scope.specs.declared.values.MeaningOf.TheVariants.{Undefined, Builtin}
-use Rattle.texml_scope.proofs.Texts.{world_set_local}
+use Rattle.texml_scope.proofs.Texts.{world_set_local, world_stays}
 use Rattle.texml_input.proofs.Sources.{sources_more, rest_grown}
 use Rattle.texml_expand.specs.State.{State}
 use Rattle.texml_expand.specs.Names.{is_undefined, with_name, named}
@@ -63,3 +67,22 @@ named_puts h names scope writes e = record {
   begun = refl;
   room = λ shelf. let same = ap (λ groups. sum_by (λ g. length g.after) groups) e in omega (arith, same);
 }
+
+-- what names mean is the same where names were only added
+pub grown_world : (h : Held) (names : Table) → Sound h → Extends h.names names → world_in (record h { names = names }) ≡ world_in h
+grown_world h names s g = world_stays h.names names g (world_of h.scope) s.scope
+
+-- a name that was given isn't the fixed \relax
+name_given : (texts : Table) (n : ℕ) → 1 ≤ n → name_at texts n ≡ Named (text_at texts n)
+name_given texts zero le = absurd (omega (arith, le))
+name_given texts (suc n) le = refl
+
+-- the name alone
+pub name_alone : {E : Type 0} (r : Result (List TokenCode) E) (texts : Table) (name : NameCode) (text : List ℕ) → IfOk r (λ list. list ≡ tokens.Named name ∷ []) → 1 ≤ name.0 → text_at texts name.0 ≡ text
+    → IfOk r (λ list. tokens_at texts list ≡ Named text ∷ [])
+name_alone (Ok list) texts name text e given is = ap (tokens_at texts) e ∙ ap (λ t. t ∷ []) (name_given texts name.0 given ∙ ap Named is)
+name_alone (Err e) texts name text is given same = tt
+
+pub where_ok : {A E : Type 0} (r : Result A E) (P : Type 0) → P → OnOk r P
+where_ok (Ok v) P p = p
+where_ok (Err e) P p = tt
