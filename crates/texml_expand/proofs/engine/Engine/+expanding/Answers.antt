@@ -619,7 +619,7 @@ next_looked-returns-in-Some-clause-does g t c =
     let x = Some (read_at new.names c.in-Some.read) in
     let d = does_gets (hears T.wanting T.heard) (hears_part T.wanting T.part) (λ c. take) lawful_take (Ok x) c.args.self.now new _ _ _ _ (T.faults c.args.tell.now) (T.loan c.args.tell.now) c.args.tell.now (rw c.in-Some.is at e) in
     let h = does_then (hears T.wanting T.heard) (hears_part T.wanting T.part) (λ c. take) (λ o c. give (option_map as_itself o)) lawful_take (λ o. lawful_give (option_map as_itself o)) x _ _ _ _ _ _ _ _ _ _ d
-        (does_now (hears T.wanting T.heard) (hears_part T.wanting T.part) (option_map as_itself x) new _ c.args.tell.now e.keeps.sound e.stops.kept e.holds.owns) in
+    (does_now (hears T.wanting T.heard) (hears_part T.wanting T.part) (option_map as_itself x) new _ c.args.tell.now e.keeps.sound e.stops.kept e.holds.owns) in
     rw c.as_itself.ensures (looked_as (hears T.wanting T.heard) (hears_part T.wanting T.part) true c.args.raw _ _ _ _ _ _ _ c.if-raw.true h)
 
 pub next_looked-returns-in_err-read-2-clause-does : goal.next_looked-returns-in_err-read-2-clause-does
