@@ -24,6 +24,8 @@ mod Rows
 pub mod Scanning
 pub mod Printing
 pub mod Counting
+pub mod Spelled
+pub mod Named
 pub mod Judging
 pub mod Faces
 pub mod Fronts
