@@ -13,7 +13,7 @@ ghost use Rattle.texml_expand.specs.State.{tell as spec_tell};
 ghost use Rattle.texml_expand.specs.Calls.{expandable, Puts, Freezes};
 ghost use Rattle.texml_expand.specs.Expand.{front_taken, begin, finish, record_of, level};
 ghost use Rattle.texml_expand.specs.Expand.{front as spec_front, given as spec_given, fetch as spec_fetch, look as spec_look, expand_once as spec_expand_once, read_int as spec_read_int, read_dimen as spec_read_dimen, read_index as spec_read_index, decimal as spec_decimal, roman_numeral as spec_roman};
-ghost use Rattle.texml_expand.specs.Quantities.{next_looked, as_it_counts, int_text, dimension_text};
+ghost use Rattle.texml_expand.specs.Quantities.{next_looked, as_it_counts, counts_as as spec_counts_as, int_text, dimension_text};
 ghost use Rattle.texml_expand.specs.Variables.{variable_at as spec_variable_at};
 ghost use Rattle.texml_expand.specs.Quantities.{next_internal as spec_next_internal, the as spec_the, internal as spec_internal, internal_of, look as look_in};
 ghost use Rattle.texml_expand.specs.Fronts.{gift_at, GiftWithin, front_at, front_count, FrontWithin, is_undefined as means_nothing, expandable_at, ExpandableWithin, builtin_in, expandable_in, frozen_in, looked_at as looked_at_by, LookedWithin};
