@@ -21,7 +21,7 @@ ghost use Rattle.texml_expand.specs.VariableCodes.{internal_at, InternalWithin, 
 ghost use Rattle.texml_expand.specs.declared.engine.expanding.TheConstants.{DEEPEST};
 ghost use Rattle.texml_expand.specs.Machine.{machine_rest};
 ghost use Rattle.texml_expand.specs.Scanning.{Turned, MayGive};
-ghost use Rattle.texml_expand.specs.Held.{state_of, Sound, Kept, Progress, IsAtLimit, ok_at, read_at, ReadWithin, Owns, Holding, SameFiles, Shrinks, Begun};
+ghost use Rattle.texml_expand.specs.Held.{state_of, world_in, Sound, Kept, Progress, IsAtLimit, ok_at, read_at, ReadWithin, Owns, Holding, SameFiles, Shrinks, Begun};
 ghost use Rattle.texml_expand.specs.Contract.{Local, AnswersKept, Stops, outside, files_at, stop_after};
 ghost use Rattle.texml_expand.specs.Hearing.{hears, hears_part, Meets, FollowsTold};
 ghost use Rattle.texml_expand.specs.Doing.{Does, Gets};

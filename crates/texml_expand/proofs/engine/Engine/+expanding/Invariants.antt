@@ -115,11 +115,11 @@ invariant-scan-tokens g l =
     let T = g.T.Teller in
     let F = g.F.Files in
     record {
-  on : Scanning (hears T.wanting T.heard) (hears_part T.wanting T.part) (machine_rest l.fn.start) l.fn.self (outside (F.shelf l.fn.files) (F.faults l.fn.files) (T.faults l.fn.tell) (T.loan l.fn.tell)) l.fn.tell (machine_rest l.machine) l.scanned l.seen.items l.self (outside (F.shelf l.files) (F.faults l.files) (T.faults l.tell) (T.loan l.tell)) l.tell;
-  begun : l.self.begun ≡ l.begun;
-  same : l.begun ≡ l.initial.self.begun;
-  limit : l.self.limit ≡ l.initial.self.limit;
-}
+      on : Scanning (hears T.wanting T.heard) (hears_part T.wanting T.part) (machine_rest l.fn.start) l.fn.self (outside (F.shelf l.fn.files) (F.faults l.fn.files) (T.faults l.fn.tell) (T.loan l.fn.tell)) l.fn.tell (machine_rest l.machine) l.scanned l.seen.items l.self (outside (F.shelf l.files) (F.faults l.files) (T.faults l.tell) (T.loan l.tell)) l.tell;
+      begun : l.self.begun ≡ l.begun;
+      same : l.begun ≡ l.initial.self.begun;
+      limit : l.self.limit ≡ l.initial.self.limit;
+    }
 
 abbrev pub decreases-scan-tokens : goal.decreases-scan-tokens
 decreases-scan-tokens g l = held_room (g.F.Files.shelf l.files) l.self

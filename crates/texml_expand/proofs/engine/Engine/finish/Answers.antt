@@ -1,4 +1,4 @@
-use Rattle.std.proofs.Common.{subst, sym}
+use Rattle.std.proofs.Common.{subst}
 use Rattle.texml_token.specs.Numbers.{token_at, tokens_at}
 use Rattle.texml_expand.specs.Expand.{record_of}
 use Rattle.texml_expand.specs.State.{State, tell}
