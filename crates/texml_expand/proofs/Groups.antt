@@ -61,14 +61,14 @@ closes_yes list t o e =
     let b = o.balance in
     eq-eqb (count_by (has_category END_GROUP) (list ++ t ∷ [])) (count_by (has_category BEGIN_GROUP) (list ++ t ∷ []) + 1) (omega arith)
 
-without_last : {A : Type 0} (list : List A) (t : A) → take (length (list ++ t ∷ []) - 1) (list ++ t ∷ []) ≡ list
+pub without_last : {A : Type 0} (list : List A) (t : A) → take (length (list ++ t ∷ []) - 1) (list ++ t ∷ []) ≡ list
 without_last list t =
     let n : length (list ++ t ∷ []) - 1 ≡ length list = omega (arith, length-append list (t ∷ [])) in
     ap (λ k. take k (list ++ t ∷ [])) n ∙ take-append_seam list (t ∷ [])
 
 -- the tokens of a group and one more
 module _ (texts : Table) (body : List TokenCode) (t : TokenCode) where
-  pushed : tokens_at texts (body ++ t ∷ []) ≡ tokens_at texts body ++ token_at texts t ∷ []
+  pub pushed : tokens_at texts (body ++ t ∷ []) ≡ tokens_at texts body ++ token_at texts t ∷ []
   pushed = map-append (token_at texts) body (t ∷ [])
 
   pub group_ends : IsOpen (tokens_at texts body) 0 → has_category END_GROUP (token_at texts t) ≡ true → judge_group texts (body ++ t ∷ []) ≡ Yields body

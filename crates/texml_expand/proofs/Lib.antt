@@ -47,6 +47,7 @@ pub mod Comparing
 pub mod Gifts
 pub mod Testing
 pub mod Groups
+pub mod Gatherer
 pub mod Sequence
 pub mod Spacing
 pub mod Matching

@@ -11,6 +11,8 @@ ghost use Rattle.texml_input.specs.Next.{Taken};
 ghost use Rattle.texml_expand.specs.Take.{meaning_of};
 ghost use Rattle.texml_expand.specs.State.{tell as spec_tell};
 ghost use Rattle.texml_expand.specs.Calls.{expandable, Puts, Freezes};
+ghost use Rattle.texml_input.specs.Rest.{Tok};
+ghost use Rattle.texml_expand.specs.Begin.{finish_with};
 ghost use Rattle.texml_expand.specs.Expand.{front_taken, begin, finish, record_of, level};
 ghost use Rattle.texml_expand.specs.Expand.{front as spec_front, given as spec_given, fetch as spec_fetch, look as spec_look, expand_once as spec_expand_once, read_int as spec_read_int, read_dimen as spec_read_dimen, read_index as spec_read_index, decimal as spec_decimal, roman_numeral as spec_roman};
 ghost use Rattle.texml_expand.specs.Quantities.{next_looked, as_it_counts, counts_as as spec_counts_as, int_text, dimension_text};
@@ -363,10 +365,35 @@ impl Engine {
         ensures limit { IsAtLimit result self.new }
         ensures files { SameFiles self.old self.new }
     {
-        match self.input.push_tokens(list) {
+        self.finish_with(tell, token, list, list)
+    }
+
+    // Ends an expansion: the first tokens are put before what is to be read, and the others are told.
+    pub(super) fn finish_with<T: Teller>(
+        &mut self,
+        tell: &mut T,
+        token: Token,
+        back: &Tokens,
+        told: &Tokens,
+    ) -> Result<(), Stop>
+        requires running { self.old.stop ≡ None }
+        requires nested { 1 ≤ self.old.nesting }
+        requires token { TokenWithin (length self.old.names) token }
+        requires back { TokensWithin (length self.old.names) back.now }
+        requires told { TokensWithin (length self.old.names) told.now }
+        ensures finishes { (shelf : Shelf) → Meets (hears T.wanting T.heard) (hears_part T.wanting T.part)
+            (finish_with (map Tok (tokens_at self.old.names back.now)) (tokens_at self.old.names told.now) (token_at self.old.names token) (state_of shelf self.old)) result (state_of shelf self.new) tell.old tell.new }
+        ensures stops { (shelf : Shelf) (faults : ℕ) → Stops result (outside shelf faults (T.faults tell.old) (T.loan tell.old)) (outside shelf faults (T.faults tell.new) (T.loan tell.new)) self.new.stop }
+        ensures kept { self.new.stop ≡ stop_after result }
+        ensures is { OnOk result (self.new ≡ record self.old { input = record self.old.input { sources = map Plain back.now ++ self.old.input.sources }; nesting = self.old.nesting - 1 }) }
+        ensures progress { Progress self.old self.new }
+        ensures limit { IsAtLimit result self.new }
+        ensures files { SameFiles self.old self.new }
+    {
+        match self.input.push_tokens(back) {
             Ok(()) => {
                 self.nesting -= 1;
-                self.tell_of(tell, token, list)
+                self.tell_of(tell, token, told)
             }
             Err(_) => Err(self.no_memory()),
         }

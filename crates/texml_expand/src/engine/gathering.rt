@@ -5,7 +5,7 @@ ghost use Rattle.texml_base.specs.Outside.{Shelf};
 ghost use Rattle.texml_token.specs.Numbers.{Table, token_at, tokens_at, TokenWithin, TokensWithin};
 ghost use Rattle.texml_scope.specs.Texts.{World};
 ghost use Rattle.texml_scope.specs.Numbers.{meaning_at};
-ghost use Rattle.texml_expand.specs.Gathering.{copies as spec_copies, copied as spec_copied, kept_of, returned as spec_returned, ends_name as spec_ends_name, is_relation as spec_is_relation, judged as spec_judged, of_relation as spec_of_relation};
+ghost use Rattle.texml_expand.specs.Gathering.{doubled as doubled_list, copies as spec_copies, copied as spec_copied, kept_of, returned as spec_returned, ends_name as spec_ends_name, is_relation as spec_is_relation, judged as spec_judged, of_relation as spec_of_relation};
 ghost use Rattle.texml_expand.specs.Quantities.{counts_as as spec_counts_as, shown as spec_shown};
 ghost use Rattle.texml_expand.specs.Fronts.{at_once, expandable_at, ExpandableWithin, verdict_at, VerdictWithin, PartsWithin};
 ghost use Rattle.texml_expand.specs.VariableCodes.{internal_at, InternalWithin};
@@ -18,10 +18,10 @@ ghost use Rattle.texml_expand.specs.Doing.{Does};
 use super::Engine;
 use super::arguments::is_sign;
 use super::expanding::{Expandable, Front};
+use super::quantities::shown;
 use crate::feeding::Verdict;
 use crate::gathering::{Gathered, Gathering, doubled};
 use crate::internal::Internal;
-use crate::printed::{printed_dimension, printed_glue, printed_number};
 use crate::stop::Stop;
 use std::alloc::{AllocError, Global};
 use texml_base::Files;
@@ -162,12 +162,7 @@ impl Engine {
             Ok(parts) => parts,
             Err(_) => return Err(self.no_memory()),
         };
-        match self.input.push_tokens(&parts.back) {
-            Ok(()) => {}
-            Err(_) => return Err(self.no_memory()),
-        }
-        self.nesting -= 1;
-        self.tell_of(tell, token, &parts.told)?;
+        self.finish_with(tell, token, &parts.back, &parts.told)?;
         Ok(parts.kept)
     }
 
@@ -244,18 +239,24 @@ fn parts_of(alloc: Global, internal: Internal) -> Result<Parts, AllocError>
     ensures within { IfOk result (λ parts. (count : ℕ) → InternalWithin count internal → PartsWithin count parts) }
 {
     match internal {
-        Internal::Tokens(list) => {
-            let kept = doubled(alloc, list.as_slice())?;
-            Ok(Parts {
-                back: Tokens::new(alloc),
-                told: list,
-                kept,
-            })
-        }
-        Internal::Number(value) => returned(alloc, printed_number(alloc, value)?),
-        Internal::Dimension(value) => returned(alloc, printed_dimension(alloc, value)?),
-        Internal::Glue(value) => returned(alloc, printed_glue(alloc, value)?),
+        Internal::Tokens(list) => taken(alloc, list),
+        quantity => returned(alloc, shown(alloc, quantity)?),
     }
+}
+
+// These all are taken.
+fn taken(alloc: Global, list: Tokens) -> Result<Parts, AllocError>
+    ensures back { IfOk result (λ parts. parts.back ≡ []) }
+    ensures told { IfOk result (λ parts. parts.told ≡ list) }
+    ensures kept { IfOk result (λ parts. (texts : Table) → tokens_at texts parts.kept ≡ doubled_list (tokens_at texts list)) }
+    ensures within { IfOk result (λ parts. (count : ℕ) → TokensWithin count list → PartsWithin count parts) }
+{
+    let kept = doubled(alloc, list.as_slice())?;
+    Ok(Parts {
+        back: Tokens::new(alloc),
+        told: list,
+        kept,
+    })
 }
 
 // These all go back.

@@ -311,7 +311,7 @@ given-returns-in_ok-list-in-JobName-clause-does g t c =
     let F = g.F.Files in
     let mine = c.args.self.now in
     let tok = token_at mine.names c.args.token in
-    let d = puts_does (hears T.wanting T.heard) (hears_part T.wanting T.part) (λ c'. job) lawful_job _ _ _ _ _ _ _ (does_silent (hears T.wanting T.heard) (hears_part T.wanting T.part) (λ c'. job) lawful_job _ mine c.job.new.self (outside (F.shelf c.args.files.now) (F.faults c.args.files.now) (T.faults c.args.tell.now) (T.loan c.args.tell.now)) c.args.tell.now (c.in_ok-list-in-JobName.ensures.writes (F.shelf c.args.files.now)) c.in_ok-list-in-JobName.ensures.kept c.in_ok-list-in-JobName.ensures.limit c.in_ok-list-in-JobName.ensures.keeps c.in_ok-list-in-JobName.ensures.progress c.in_ok-list-in-JobName.ensures.files c.requires.owns) in
+    let d = puts_does (hears T.wanting T.heard) (hears_part T.wanting T.part) (λ c'. job) lawful_job _ _ _ _ _ _ _ (does_silent (hears T.wanting T.heard) (hears_part T.wanting T.part) (λ c'. job) lawful_job _ mine c.job.new.self (outside (F.shelf c.args.files.now) (F.faults c.args.files.now) (T.faults c.args.tell.now) (T.loan c.args.tell.now)) c.args.tell.now (by_new tokens_at job (Ok c.in_ok-list-in-JobName.list) mine c.job.new.self c.in_ok-list-in-JobName.ensures.writes c.in_ok-list-in-JobName.ensures.same (F.shelf c.args.files.now)) c.in_ok-list-in-JobName.ensures.kept c.in_ok-list-in-JobName.ensures.limit c.in_ok-list-in-JobName.ensures.keeps c.in_ok-list-in-JobName.ensures.progress c.in_ok-list-in-JobName.ensures.files c.requires.owns) in
     given_as (hears T.wanting T.heard) (hears_part T.wanting T.part) tok tok _ (expandable_at mine.names c.args.found) _ _ _ _ _ _ _ refl (ap (expandable_at mine.names) c.in-JobName.is) d
 
 pub given-returns-in-ExpandAfter-clause-does : goal.given-returns-in-ExpandAfter-clause-does
@@ -982,7 +982,7 @@ tested-returns-in_err-a-in-If-clause-does g t c =
     let F = g.F.Files in
     let d = choice_stops (hears T.wanting T.heard) (hears_part T.wanting T.part) two_faces lawful_two_faces (λ p. choose (p.0.code == p.1.code)) _ _ _ _ _ _ _ c.in_err-a-in-If.ensures.does in
     let h = tested_as (hears T.wanting T.heard) (hears_part T.wanting T.part) If c.args.test _ _ _ _ _ _ _ c.in-If.is d in
-    search (rules, h)
+    rw (passed_on c.from_residual.result c.in_err-a-in-If.field-0.0 c.from_residual.ensures) h
 
 pub tested-returns-in_ok-a-in-If-clause-does : goal.tested-returns-in_ok-a-in-If-clause-does
 tested-returns-in_ok-a-in-If-clause-does g t c =
@@ -997,7 +997,7 @@ tested-returns-in_err-a-in-IfCat-clause-does g t c =
     let F = g.F.Files in
     let d = choice_stops (hears T.wanting T.heard) (hears_part T.wanting T.part) two_faces lawful_two_faces (λ p. choose (p.0.category == p.1.category)) _ _ _ _ _ _ _ c.in_err-a-in-IfCat.ensures.does in
     let h = tested_as (hears T.wanting T.heard) (hears_part T.wanting T.part) IfCat c.args.test _ _ _ _ _ _ _ c.in-IfCat.is d in
-    search (rules, h)
+    rw (passed_on c.from_residual-in_err-a-in-IfCat.result c.in_err-a-in-IfCat.field-0.0 c.from_residual-in_err-a-in-IfCat.ensures) h
 
 pub tested-returns-in_ok-a-in-IfCat-clause-does : goal.tested-returns-in_ok-a-in-IfCat-clause-does
 tested-returns-in_ok-a-in-IfCat-clause-does g t c =
