@@ -26,6 +26,7 @@ pub mod Printing
 pub mod Counting
 pub mod Spelled
 pub mod Named
+pub mod Behind
 pub mod Judging
 pub mod Faces
 pub mod Fronts

@@ -56,6 +56,17 @@ use Rattle.texml_expand.proofs.Branching.{lawful_two_faces, lawful_same_meanings
 use Rattle.texml_expand.proofs.Gifts.{puts_stops, puts_does, ok_then, ended_begun}
 use Rattle.texml_expand.proofs.Testing.{face_stops, face_ends, face_out, face_does, faces_stop, faces_do, first_face_stops, dimension_stops, dimension_does, amount_as, relation_stops, relation_does, compared_first, compared_second, compared_third, compared_does, choice_stops, choice_does, tested_as, unopened, untested, unchosen, conditional_does}
 use Rattle.texml_expand.proofs.Worth.{dimen_same}
+use Rattle.texml_token.specs.declared.fault_code.TheConstants.{FILE_ENDED}
+use Rattle.texml_token.proofs.Translation.{token_more}
+use Rattle.texml_expand.specs.Calls.{Puts}
+use Rattle.texml_expand.specs.Front as fronts
+use Rattle.texml_expand.specs.Expansion.{one_token, behind_first}
+use Rattle.texml_expand.specs.Names.{name_of}
+use Rattle.texml_expand.specs.Fronts.{gift_at}
+use Rattle.texml_expand.proofs.Standing.{lawful_front}
+use Rattle.texml_expand.proofs.Giving.{lawful_one_token, lawful_behind_first, lawful_name_of}
+use Rattle.texml_expand.proofs.Running.{shrinks_begun, ok_puts}
+use Rattle.texml_expand.proofs.Behind.{after_stops, after_first, second_stops, second_is, behind_plain, behind_stops, behind_expands, name_stops, name_does}
 use Rattle.texml_expand.proofs.engine.Engine.+expanding.Goals as goal
 
 pub expand-returns-clause-does : goal.expand-returns-clause-does
@@ -1127,3 +1138,140 @@ conditional-tested-requires g t c κs within =
 
 pub relation-gather-requires : goal.relation-gather-requires
 relation-gather-requires g t c κs within = (omega (arith, c.decreases), (within.0, (within.1, (c.requires.running, (c.requires.sound, c.requires.owns)))))
+
+-- \expandafter
+
+pub expand_after-returns-in_err-first-clause-does : goal.expand_after-returns-in_err-first-clause-does
+expand_after-returns-in_err-first-clause-does g t c =
+    let T = g.T.Teller in
+    let F = g.F.Files in
+    let tell = c.args.tell.now in
+    let d = does_gets (hears T.wanting T.heard) (hears_part T.wanting T.part) (λ c'. one_token) lawful_one_token _ c.args.self.now c.one_token.new.self _ _ _ _ (T.faults tell) (T.loan tell) tell c.in_err-first.ensures.gets in
+    let h = after_stops (hears T.wanting T.heard) (hears_part T.wanting T.part) _ _ _ _ _ _ _ d in
+    search (rules, h)
+
+pub expand_after-returns-in_err-front-clause-does : goal.expand_after-returns-in_err-front-clause-does
+expand_after-returns-in_err-front-clause-does g t c =
+    let T = g.T.Teller in
+    let F = g.F.Files in
+    let tell = c.args.tell.now in
+    let mid = c.one_token.new.self in
+    let first = token_at mid.names c.in_ok-first.first in
+    let d = does_gets (hears T.wanting T.heard) (hears_part T.wanting T.part) (λ c'. one_token) lawful_one_token _ c.args.self.now mid _ _ _ _ (T.faults tell) (T.loan tell) tell c.in_ok-first.ensures.gets in
+    let k = does_gets (hears T.wanting T.heard) (hears_part T.wanting T.part) (λ c'. front) lawful_front _ mid c.front.new.self _ _ _ _ (T.faults tell) (T.loan tell) tell c.in_err-front.ensures.gets in
+    let h = after_first (hears T.wanting T.heard) (hears_part T.wanting T.part) first _ _ _ _ _ _ _ _ _ _ d (second_stops (hears T.wanting T.heard) (hears_part T.wanting T.part) first _ _ _ _ _ _ _ k) in
+    search (rules, h)
+
+pub expand_after-returns-in-Nothing-clause-does : goal.expand_after-returns-in-Nothing-clause-does
+expand_after-returns-in-Nothing-clause-does g t c =
+    let T = g.T.Teller in
+    let F = g.F.Files in
+    let tell = c.args.tell.now in
+    let files = c.front.new.files in
+    let mid = c.one_token.new.self in
+    let now = c.front.new.self in
+    let first = token_at mid.names c.in_ok-first.first in
+    let d = does_gets (hears T.wanting T.heard) (hears_part T.wanting T.part) (λ c'. one_token) lawful_one_token _ c.args.self.now mid _ _ _ _ (T.faults tell) (T.loan tell) tell c.in_ok-first.ensures.gets in
+    let k = does_gets (hears T.wanting T.heard) (hears_part T.wanting T.part) (λ c'. front) lawful_front (Ok fronts.Nothing) mid now _ _ _ _ (T.faults tell) (T.loan tell) tell (rw c.in-Nothing.is at c.in_ok-front.ensures.gets) in
+    let e = c.bare_fault.ensures in
+    let u = does_fault (hears T.wanting T.heard) (hears_part T.wanting T.part) (λ c'. behind_first c' first fronts.Nothing) (lawful_behind_first first fronts.Nothing) FILE_ENDED [] c.bare_fault.result now c.bare_fault.new.self (outside (F.shelf files) (F.faults files) (T.faults tell) (T.loan tell)) tell refl e.is e.kept k.holds.owns in
+    after_first (hears T.wanting T.heard) (hears_part T.wanting T.part) first _ _ _ _ _ _ _ _ _ _ d (second_is (hears T.wanting T.heard) (hears_part T.wanting T.part) first fronts.Nothing _ _ _ _ _ _ _ _ _ _ k u)
+
+pub expand_after-returns-in-Plain-clause-does : goal.expand_after-returns-in-Plain-clause-does
+expand_after-returns-in-Plain-clause-does g t c =
+    let T = g.T.Teller in
+    let F = g.F.Files in
+    let tell = c.args.tell.now in
+    let files = c.front.new.files in
+    let mid = c.one_token.new.self in
+    let now = c.front.new.self in
+    let new = c.puts.new.self in
+    let first = token_at mid.names c.in_ok-first.first in
+    let read = read_at now.names c.in-Plain.second in
+    let d = does_gets (hears T.wanting T.heard) (hears_part T.wanting T.part) (λ c'. one_token) lawful_one_token _ c.args.self.now mid _ _ _ _ (T.faults tell) (T.loan tell) tell c.in_ok-first.ensures.gets in
+    let k = does_gets (hears T.wanting T.heard) (hears_part T.wanting T.part) (λ c'. front) lawful_front (Ok (fronts.Plain read)) mid now _ _ _ _ (T.faults tell) (T.loan tell) tell (rw c.in-Plain.is at c.in_ok-front.ensures.gets) in
+    let kept = token_kept mid.names now.names k.progress.names c.in_ok-first.first c.in_ok-first.ensures.within in
+    let e = c.puts.ensures in
+    let gift = Puts (token_at now.names c.in_ok-first.first ∷ read.token ∷ []) in
+    let u = does_as (hears T.wanting T.heard) (hears_part T.wanting T.part) (gift_at new.names) (λ c'. give gift) (lawful_give gift) c.puts.result now new (outside (F.shelf files) (F.faults files) (T.faults tell) (T.loan tell)) tell (by_new gift_at (give gift) c.puts.result now new e.puts e.same) e.kept e.limit e.keeps e.progress e.files k.holds.owns in
+    after_first (hears T.wanting T.heard) (hears_part T.wanting T.part) first _ _ _ _ _ _ _ _ _ _ d
+    (second_is (hears T.wanting T.heard) (hears_part T.wanting T.part) first (fronts.Plain read) _ _ _ _ _ _ _ _ _ _ k (behind_plain (hears T.wanting T.heard) (hears_part T.wanting T.part) _ first read _ _ _ _ _ _ _ kept u))
+
+pub expand_after-returns-in_err-expand-in-Expands-clause-does : goal.expand_after-returns-in_err-expand-in-Expands-clause-does
+expand_after-returns-in_err-expand-in-Expands-clause-does g t c =
+    let T = g.T.Teller in
+    let F = g.F.Files in
+    let tell = c.args.tell.now in
+    let mid = c.one_token.new.self in
+    let now = c.front.new.self in
+    let first = token_at mid.names c.in_ok-first.first in
+    let second = token_at now.names c.in-Expands.second in
+    let x = expandable_at now.names c.in-Expands.found in
+    let d = does_gets (hears T.wanting T.heard) (hears_part T.wanting T.part) (λ c'. one_token) lawful_one_token _ c.args.self.now mid _ _ _ _ (T.faults tell) (T.loan tell) tell c.in_ok-first.ensures.gets in
+    let k = does_gets (hears T.wanting T.heard) (hears_part T.wanting T.part) (λ c'. front) lawful_front (Ok (fronts.Expands second x)) mid now _ _ _ _ (T.faults tell) (T.loan tell) tell (rw c.in-Expands.is at c.in_ok-front.ensures.gets) in
+    let h = after_first (hears T.wanting T.heard) (hears_part T.wanting T.part) first _ _ _ _ _ _ _ _ _ _ d
+        (second_is (hears T.wanting T.heard) (hears_part T.wanting T.part) first (fronts.Expands second x) _ _ _ _ _ _ _ _ _ _ k (behind_stops (hears T.wanting T.heard) (hears_part T.wanting T.part) first second x _ _ _ _ _ _ _ c.in_err-expand-in-Expands.ensures.does)) in
+    search (rules, h)
+
+pub expand_after-returns-in-Expands-clause-does : goal.expand_after-returns-in-Expands-clause-does
+expand_after-returns-in-Expands-clause-does g t c =
+    let T = g.T.Teller in
+    let F = g.F.Files in
+    let tell = c.args.tell.now in
+    let last = c.expand.new.tell in
+    let files = c.expand.new.files in
+    let mid = c.one_token.new.self in
+    let now = c.front.new.self in
+    let then = c.expand.new.self in
+    let new = c.puts-in-Expands.new.self in
+    let first = token_at mid.names c.in_ok-first.first in
+    let second = token_at now.names c.in-Expands.second in
+    let x = expandable_at now.names c.in-Expands.found in
+    let d = does_gets (hears T.wanting T.heard) (hears_part T.wanting T.part) (λ c'. one_token) lawful_one_token _ c.args.self.now mid _ _ _ _ (T.faults tell) (T.loan tell) tell c.in_ok-first.ensures.gets in
+    let k = does_gets (hears T.wanting T.heard) (hears_part T.wanting T.part) (λ c'. front) lawful_front (Ok (fronts.Expands second x)) mid now _ _ _ _ (T.faults tell) (T.loan tell) tell (rw c.in-Expands.is at c.in_ok-front.ensures.gets) in
+    let l = c.in_ok-expand-in-Expands.ensures.does in
+    let within = token_more (length mid.names) (length now.names) k.progress.names.longer c.in_ok-first.first c.in_ok-first.ensures.within in
+    let kept = token_kept now.names then.names l.progress.names c.in_ok-first.first within ∙ token_kept mid.names now.names k.progress.names c.in_ok-first.first c.in_ok-first.ensures.within in
+    let e = c.puts-in-Expands.ensures in
+    let gift = Puts (token_at then.names c.in_ok-first.first ∷ []) in
+    let u = does_as (hears T.wanting T.heard) (hears_part T.wanting T.part) (gift_at new.names) (λ c'. give gift) (lawful_give gift) c.puts-in-Expands.result then new (outside (F.shelf files) (F.faults files) (T.faults last) (T.loan last)) last (by_new gift_at (give gift) c.puts-in-Expands.result then new e.puts e.same) e.kept e.limit e.keeps e.progress e.files l.holds.owns in
+    after_first (hears T.wanting T.heard) (hears_part T.wanting T.part) first _ _ _ _ _ _ _ _ _ _ d
+    (second_is (hears T.wanting T.heard) (hears_part T.wanting T.part) first (fronts.Expands second x) _ _ _ _ _ _ _ _ _ _ k (behind_expands (hears T.wanting T.heard) (hears_part T.wanting T.part) _ first second x _ _ _ _ _ _ _ _ _ _ kept l u))
+
+pub expand_after-returns-in-Plain-clause-lower : goal.expand_after-returns-in-Plain-clause-lower
+expand_after-returns-in-Plain-clause-lower g t c =
+    let second = rw c.in-Plain.is at c.in_ok-front.ensures.lower in
+    ok_same c.puts.result 0 _ _ _ c.front.new.self c.puts.new.self (shrinks_then 1 1 0 _ _ _ _ c.one_token.new.self _ c.in_ok-first.ensures.lower second (omega arith)) c.puts.ensures.same
+
+pub expand_after-returns-in-Expands-clause-lower : goal.expand_after-returns-in-Expands-clause-lower
+expand_after-returns-in-Expands-clause-lower g t c =
+    let second = rw c.in-Expands.is at c.in_ok-front.ensures.lower in
+    let before = shrinks_then 1 1 1 _ _ _ _ c.one_token.new.self _ c.in_ok-first.ensures.lower second (omega arith) in
+    ok_same c.puts-in-Expands.result 0 _ _ _ c.expand.new.self c.puts-in-Expands.new.self (shrinks_begun 1 0 _ _ _ _ c.front.new.self _ before c.in_ok-expand-in-Expands.ensures.begins) c.puts-in-Expands.ensures.same
+
+-- \csname
+
+pub cs_name-returns-in_err-list-clause-does : goal.cs_name-returns-in_err-list-clause-does
+cs_name-returns-in_err-list-clause-does g t c =
+    let T = g.T.Teller in
+    let F = g.F.Files in
+    let h = name_stops (hears T.wanting T.heard) (hears_part T.wanting T.part) _ _ _ _ _ _ _ c.in_err-list.ensures.does in
+    search (rules, h)
+
+pub cs_name-returns-clause-does : goal.cs_name-returns-clause-does
+cs_name-returns-clause-does g t c =
+    let T = g.T.Teller in
+    let F = g.F.Files in
+    let last = c.gather.new.tell in
+    let files = c.gather.new.files in
+    let mid = c.gather.new.self in
+    let new = c.named.new.self in
+    let list = tokens_at mid.names c.in_ok-list.list in
+    let e = c.named.ensures in
+    let d = c.in_ok-list.ensures.does in
+    let names = subst (λ l. Local (name_of (tokens_at mid.names l)) (ok_at (gift_at new.names) c.named.result) mid new) c.as_slice.ensures e.names in
+    let u = does_as (hears T.wanting T.heard) (hears_part T.wanting T.part) (gift_at new.names) (λ c'. name_of list) (lawful_name_of list) c.named.result mid new (outside (F.shelf files) (F.faults files) (T.faults last) (T.loan last)) last names e.kept e.limit e.keeps e.progress e.files d.holds.owns in
+    name_does (hears T.wanting T.heard) (hears_part T.wanting T.part) list _ _ _ _ _ _ _ _ _ _ d u
+
+pub cs_name-returns-clause-lower : goal.cs_name-returns-clause-lower
+cs_name-returns-clause-lower g t c = ok_puts c.named.result 0 0 0 _ _ _ c.gather.new.self c.named.new.self c.in_ok-list.ensures.lower c.named.ensures.puts (omega arith)
