@@ -134,7 +134,7 @@ none_closes : (list : List Token) → length list ≡ 0 → closes list ≡ fals
 none_closes [] z = refl
 none_closes (t ∷ list) z = absurd (omega (arith, z))
 
-pub absorb_leads : (s : State) → Leads (λ list t. Lower (length list + 1) s t) (absorb s)
+pub absorb_leads : (s : State) → Leads (λ list t. Lower (length list + 1) s t) (absorb false s)
 absorb_leads s =
     leads_weaker (Decides absorbed s) (λ list t. Lower (length list + 1) s t) (absorb s)
     (λ body t d. lower_then (length d.list) 0 (length body + 1) s t t d.lower (lower_none t) (let n = absorbed_by (closes d.list) d.list body (none_closes d.list) d.is in omega arith))

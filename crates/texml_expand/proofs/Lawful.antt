@@ -141,3 +141,10 @@ lawful_gather g = record {
   falls = λ c f s. f.gather g [] s;
   settles = λ l s h. (h s (lower_none s)).gather g [];
 }
+
+pub lawful_copy : (t : Token) → Lawful (λ c. c.copy t)
+lawful_copy t = record {
+  grows = λ c c' k s. k.copy t s;
+  falls = λ c f s. leads_weaker (λ v u. Begins s u) (λ v u. Lower 0 s u) (c.copy t s) (λ v u. begins_less s u) (f.copy t s);
+  settles = λ l s h. (h s (lower_none s)).copy t;
+}

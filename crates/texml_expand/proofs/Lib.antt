@@ -48,6 +48,7 @@ pub mod Gifts
 pub mod Testing
 pub mod Groups
 pub mod Gatherer
+pub mod Gathered
 pub mod Sequence
 pub mod Spacing
 pub mod Matching
