@@ -15,8 +15,9 @@ use Rattle.texml_token.specs.declared.category.TheConstants.{BEGIN_GROUP, END_GR
 use Rattle.texml_expand.specs.declared.stop.Stop.{Stop}
 use Rattle.texml_expand.specs.declared.feeding.Verdict.TheVariants.{TooShort, Yields}
 use Rattle.texml_expand.specs.Held.{Held, Shrinks}
-use Rattle.texml_expand.specs.Absorb.{closes, absorbed, absorb}
+use Rattle.texml_expand.specs.Absorb.{closes, absorbed}
 use Rattle.texml_expand.specs.Feeding.{IsOpen, FedBy, judge_group}
+use Rattle.texml_expand.specs.Least.{by_least}
 use Rattle.texml_expand.proofs.Least.{choose_yes, choose_no, Decides, by_least_leads}
 use Rattle.texml_expand.specs.State.{State}
 use Rattle.texml_expand.specs.Contract.{Lower}
@@ -134,8 +135,8 @@ none_closes : (list : List Token) → length list ≡ 0 → closes list ≡ fals
 none_closes [] z = refl
 none_closes (t ∷ list) z = absurd (omega (arith, z))
 
-pub absorb_leads : (s : State) → Leads (λ list t. Lower (length list + 1) s t) (absorb false s)
+pub absorb_leads : (s : State) → Leads (λ list t. Lower (length list + 1) s t) (by_least absorbed s)
 absorb_leads s =
-    leads_weaker (Decides absorbed s) (λ list t. Lower (length list + 1) s t) (absorb s)
+    leads_weaker (Decides absorbed s) (λ list t. Lower (length list + 1) s t) (by_least absorbed s)
     (λ body t d. lower_then (length d.list) 0 (length body + 1) s t t d.lower (lower_none t) (let n = absorbed_by (closes d.list) d.list body (none_closes d.list) d.is in omega arith))
     (by_least_leads absorbed s)
