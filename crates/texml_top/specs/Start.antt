@@ -18,13 +18,13 @@ IsStatusAt code about place NoMemory = Unit {0}
 IsStatusAt code about place _ = ⊥
 
 -- an engine that has nothing to read
-pub record IsEmpty (name : List ℕ) (limit : ℕ) (engine : Held) : Type 0 where
+pub record IsEmpty (name : List ℕ) (most : ℕ) (engine : Held) : Type 0 where
   pub world : world_in engine ≡ first_world
   pub input : engine.input ≡ record { sources = []; place = no_place; fault = None }
   pub kept : engine.kept ≡ None
   pub main : engine.main ≡ name
   pub begun : engine.begun ≡ 0
-  pub limit : engine.limit ≡ limit
+  pub limit : engine.limit ≡ most
   pub nesting : engine.nesting ≡ 0
   pub stop : engine.stop ≡ None
   pub sound : Sound engine

@@ -15,15 +15,15 @@ use Rattle.texml_top.specs.Digest.{digest_left}
 use Rattle.texml_top.proofs.Digesting.{lawful_left}
 use Rattle.texml_top.proofs.digest.digest_token.Goals as goal
 
-pub returns-in_err-done-clause-does : goal.returns-in_err-done-clause-does
-returns-in_err-done-clause-does g c =
+pub returns-in_err-done : goal.returns-in_err-done
+returns-in_err-done g c =
     let f = c.in_err-done.ensures in let run = c.requires.running in let t = token_at c.args.engine.now.names c.args.token in
     let h = does_stop _ _ (execute t) (digest_left t) (lawful_execute t) (lawful_left t) _ c.args.engine.now c.execute.new.engine _ _ _ _ c.requires.sound
     (record { follows = f.follows run; stops = f.stops run; limit = f.limit run; keeps = tt; advances = f.advances; holds = f.holds; shrinks = tt }) in
     search (rules, h)
 
-pub returns-in-Yes-clause-does : goal.returns-in-Yes-clause-does
-returns-in-Yes-clause-does g c =
+pub returns-in-Yes : goal.returns-in-Yes
+returns-in-Yes g c =
     let f = c.in_ok-done.ensures in let t = token_at c.args.engine.now.names c.args.token in let mid = c.execute.new.engine in
     let run = c.requires.running in
     let d = rw c.in-Yes.is at (f.follows run) in let stops = f.stops run in let keeps = f.keeps run in let shrinks = f.lower run in
@@ -36,8 +36,8 @@ digest_left-requires-clause-token g c =
     let same = c.in_ok-done.ensures.same c.in-NotMine.is in
     subst (λ (h : Held). TokenWithin (length h.names) c.args.token) (sym same.0) c.requires.token
 
-pub returns-in-NotMine-clause-does : goal.returns-in-NotMine-clause-does
-returns-in-NotMine-clause-does g c =
+pub returns-in-NotMine : goal.returns-in-NotMine
+returns-in-NotMine g c =
     let f = c.in_ok-done.ensures in let old = c.args.engine.now in let t = token_at old.names c.args.token in let mid = c.execute.new.engine in let l = c.digest_left.ensures in let new = c.digest_left.new.engine in
     let run = c.requires.running in
     let d = rw c.in-NotMine.is at (f.follows run) in let stops = f.stops run in let keeps = f.keeps run in let shrinks = f.lower run in

@@ -10,27 +10,27 @@ use Rattle.texml_top.specs.Verb.{text_loop}
 use Rattle.texml_top.proofs.Verbs.{text_laws, char_over, char_on, turn_does, turn_ends}
 use Rattle.texml_top.proofs.verb.text_to.Goals as goal
 
-pub returns-in_err-token-clause-does : goal.returns-in_err-token-clause-does
-returns-in_err-token-clause-does g c =
+pub returns-in_err-token : goal.returns-in_err-token
+returns-in_err-token g c =
     let d = c.args.end in
     let h = goes_stops _ _ (text_loop d) (text_laws d) _ [] c.tokens.text _ _ _ _ _ _ _ _ _ c.tokens.invariant.going c.in_err-token.ensures.does in search (rules, h)
 
-pub returns-in-None-clause-does : goal.returns-in-None-clause-does
-returns-in-None-clause-does g c =
+pub returns-in-None : goal.returns-in-None
+returns-in-None g c =
     let d = c.args.end in let mid = c.token_or_end.new.engine in let seen = c.tokens.text in
     goes_ends _ _ (text_loop d) (text_laws d) _ [] seen _ _ mid c.bare_fault.new.self _ _ _ _ _ _ _ _ c.tokens.invariant.going (rw c.in-None.is at c.in_ok-token.ensures.does)
     (does_fault _ _ ((text_loop d).end seen) ((text_laws d).end seen) FILE_ENDED c.bare_fault.result mid c.bare_fault.new.self _ _ c.in_ok-token.ensures.does.holds.owns (λ shelf. refl) c.bare_fault.ensures.is c.bare_fault.ensures.kept)
 
-pub returns-in_err-code-clause-does : goal.returns-in_err-code-clause-does
-returns-in_err-code-clause-does g c =
+pub returns-in_err-code : goal.returns-in_err-code
+returns-in_err-code g c =
     let d = c.args.end in let i = c.tokens.invariant in let mid = c.token_or_end.new.engine in let s = rw c.in-Some.is at c.in_ok-token.ensures.does in let t = token_at mid.names c.in-Some.token in let seen = c.tokens.text in let far = c.char_of.new.engine in
     let m = c.in_err-code.ensures in
     let h = goes_turn_stops _ _ (text_loop d) (text_laws d) t _ [] seen _ _ mid far _ _ _ _ _ _ _ _ i.going s
     (turn_ends (hears g.T.Teller.wanting g.T.Teller.heard) (hears_part g.T.Teller.wanting g.T.Teller.part) d seen t _ mid far _ _ s.keeps.sound s.holds.owns m.gives m.kept m.is) in
     search (rules, h)
 
-pub returns-then-code-end-clause-does : goal.returns-then-code-end-clause-does
-returns-then-code-end-clause-does g c =
+pub returns-then-code-end : goal.returns-then-code-end
+returns-then-code-end g c =
     let d = c.args.end in let i = c.tokens.invariant in let mid = c.token_or_end.new.engine in let s = rw c.in-Some.is at c.in_ok-token.ensures.does in let t = token_at mid.names c.in-Some.token in let seen = c.tokens.text in let far = c.char_of.new.engine in
     let m = c.in_ok-code.ensures in
     goes_over _ _ (text_loop d) (text_laws d) t seen [] seen _ _ mid far _ _ _ _ _ _ _ _ i.going s
@@ -52,8 +52,8 @@ tokens-preserved g c =
           (turn_does (hears g.T.Teller.wanting g.T.Teller.heard) (hears_part g.T.Teller.wanting g.T.Teller.part) d seen t c.in_ok-code.code (On more) mid far _ _ s.holds.owns m.gives m.kept m.keeps m.is (λ shelf. char_on d seen more c.in_ok-code.code (state_of shelf far) c.if-code-end.false c.in-Ok.ensures));
     }
 
-pub returns-in-Err-clause-does : goal.returns-in-Err-clause-does
-returns-in-Err-clause-does g c =
+pub returns-in-Err : goal.returns-in-Err
+returns-in-Err g c =
     let d = c.args.end in let i = c.tokens.invariant in let mid = c.token_or_end.new.engine in let s = rw c.in-Some.is at c.in_ok-token.ensures.does in let t = token_at mid.names c.in-Some.token in let seen = c.tokens.text in let far = c.char_of.new.engine in
     let m = c.in_ok-code.ensures in
     let more = seen ++ encode_utf8 c.in_ok-code.code in
