@@ -1,18 +1,16 @@
 -- How a run starts on its file.
-use Rattle.std.proofs.Common.{◌≡◌, ◌∙◌, ℕ, List, [], ◌∷◌, IsTrue, Option, Some, None, Result, Ok, Err, refl, sym, ap, subst, ok_or, unwrap_or}
-use Rattle.std.specs.Option.{option_map}
-use Rattle.texml_base.specs.Outside.{Shelf, IsOpened, in_use}
+use Rattle.std.proofs.Common.{◌≡◌, ◌∙◌, ℕ, List, [], ◌∷◌, IsTrue, Some, None, Err, refl, ap}
+use Rattle.std.proofs.lemmas.Bool.{eq-eqb}
+use Rattle.texml_base.specs.Outside.{Shelf, IsOpened, HasTroubleCause, without}
+use Rattle.texml_base.specs.declared.files.Trouble.{Trouble}
+use Rattle.texml_base.specs.declared.files.Trouble.TheVariants as trouble
 use Rattle.texml_token.specs.declared.fault_code.TheConstants.{MISSING_FILE}
-use Rattle.texml_scope.specs.Shown.{Shown, world_of}
-use Rattle.texml_scope.specs.Numbers.{world_at}
-use Rattle.texml_scope.specs.Builtins.{first_world}
-use Rattle.texml_text.specs.File.{rows}
-use Rattle.texml_input.specs.Rest.{Place, no_place}
-use Rattle.texml_input.specs.Held.{File, fresh_file, ids_of}
+use Rattle.texml_input.specs.Rest.{no_place}
+use Rattle.texml_input.specs.Held.{File, fresh_file}
 use Rattle.texml_input.specs.Searching.{names_tried, first_there}
-use Rattle.texml_expand.specs.State.{fault_at}
-use Rattle.texml_expand.specs.Held.{Held, Sound, Owns, state_of, world_in}
-use Rattle.texml_top.specs.Outcome.{before, whole_text, main_text, first_state}
+use Rattle.texml_expand.specs.Held.{Held, state_of}
+use Rattle.texml_top.specs.Outcome.{before, whole_text, main_text}
+use Rattle.texml_top.specs.Run.{FilesBlamed, unread}
 use Rattle.texml_top.specs.Start.{IsStatusAt, IsEmpty, IsFirst, Starts}
 use Rattle.texml_top.specs.declared.status.Status.{Status}
 use Rattle.texml_top.specs.declared.status.Status.TheVariants as status
@@ -34,14 +32,6 @@ module _ (old now : Shelf) (name found : List ℕ) (id limit : ℕ) (made starte
     ap (state_of now) alone ∙ rw (empty.world, empty.kept, empty.main, empty.begun, empty.limit, empty.nesting, opened.contents, text_is told) refl,
   )
 
-  pub starts_sound : Sound started
-  starts_sound =
-      let s = empty.sound in
-      subst Sound (sym alone) (record { numbered = s.numbered; sources = (tt, tt); ready = refl; kept = s.kept; scope = s.scope; budget = s.budget })
-
-  pub starts_owns : old.ids ≡ [] → Owns now started
-  starts_owns none = subst (Owns now) (sym alone) (rw (opened.ids, none) (record { held = (?, refl, tt); all = refl }))
-
 -- a file that isn't there
 pub no_file : (old now : Shelf) (name : List ℕ) (limit : ℕ) (s : Status) → (IsTrue old.tells → first_there old.contents (names_tried name) ≡ None) → IsStatusAt MISSING_FILE name (before name) s → Starts old now name limit (Err s)
 no_file old now name limit status.Done none h = h
@@ -49,6 +39,29 @@ no_file old now name limit (status.Usage k) none h = h
 no_file old now name limit (status.Tex f) none h = λ told. rw (none told, h) refl
 no_file old now name limit (status.Model f) none h = h
 no_file old now name limit (status.Limit n) none h = h
-no_file old now name limit status.ReadFault none h = h
+no_file old now name limit status.ReadFault none h = tt
 no_file old now name limit status.WriteFault none h = h
 no_file old now name limit status.NoMemory none h = tt
+
+pub no_file_blames : (name : List ℕ) (s : Status) (m n : ℕ) → IsStatusAt MISSING_FILE name (before name) s → n ≡ m → FilesBlamed s m n
+no_file_blames name status.Done m n h e = e
+no_file_blames name (status.Usage k) m n h e = e
+no_file_blames name (status.Tex f) m n h e = e
+no_file_blames name (status.Model f) m n h e = e
+no_file_blames name (status.Limit l) m n h e = e
+no_file_blames name status.ReadFault m n h e = absurd h
+no_file_blames name status.WriteFault m n h e = e
+no_file_blames name status.NoMemory m n h e = e
+
+-- files that can't be read
+pub unread_starts : (old now : Shelf) (name : List ℕ) (limit : ℕ) (t : Trouble) → Starts old now name limit (Err (unread t))
+unread_starts old now name limit trouble.Failed = tt
+unread_starts old now name limit trouble.NoMemory = tt
+
+pub unread_blames : {A : Type 0} (m n : ℕ) (t : Trouble) → HasTroubleCause {T = A} m n (Err t) → FilesBlamed (unread t) m n
+unread_blames m n trouble.Failed h = h.failed refl
+unread_blames m n trouble.NoMemory h = h.kept
+
+-- the only file is closed
+pub none_open : (old mid now : Shelf) (id : ℕ) → old.ids ≡ [] → mid.ids ≡ id ∷ old.ids → now.ids ≡ without id mid.ids → now.ids ≡ []
+none_open old mid now id none opened closed = closed ∙ rw (opened, none, eq-eqb id id refl) refl

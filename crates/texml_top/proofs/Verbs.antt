@@ -122,9 +122,9 @@ pub keeps_behind : {A : Type 0} (r : Result A Stop) (h i j : Held) → Kept h i 
 keeps_behind (Ok v) h i j g k = kept_then h i j g k
 keeps_behind (Err e) h i j g k = tt
 
-pub puts_behind : {A : Type 0} (r : Result A Stop) {h i j : Held} → Puts 0 h i → OnOk r (Puts 0 i j) → OnOk r (Puts 0 h j)
-puts_behind (Ok v) p q = puts_then p q
-puts_behind (Err e) p q = tt
+pub puts_behind : {A : Type 0} (r : Result A Stop) (h i j : Held) → Puts 0 h i → OnOk r (Puts 0 i j) → OnOk r (Puts 0 h j)
+puts_behind (Ok v) h i j p q = puts_then p q
+puts_behind (Err e) h i j p q = tt
 
 -- a character is the delimiter, or goes to the text
 pub char_over : (d : ℕ) (seen : List ℕ) (c : ℕ) (s : State) → c ≡ d → char_turn d seen c s ≡ Done (Over seen) s nothing

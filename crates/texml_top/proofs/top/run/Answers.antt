@@ -69,21 +69,21 @@ returns-in-Err-start_engine-clause-lines g c = λ told wrote.
 -- a command that was performed, behind which the files are closed
 pub returns-clause-outcome : goal.returns-clause-outcome
 returns-clause-outcome g c = λ told read wrote memory.
-    let files = subst (λ n. FilesBlamed c.perform.result n (g.F.Files.faults c.perform.new.files)) c.in-Ok-start_engine.ensures.blames c.perform.ensures.files_cause in
-    let blamed = subst (FilesBlamed c.perform.result (g.F.Files.faults c.args.files.now)) (sym c.close_all.ensures.faults) files in
-    with_weaker _ (λ all may. ends_exactly c.perform.result all _ _ _ _ _ _ blamed c.perform.ensures.out_cause read wrote memory may)
+    let files = subst (λ n. FilesBlamed c.perform-status.result n (g.F.Files.faults c.perform-status.new.files)) c.in-Ok-start_engine.ensures.blames c.perform-status.ensures.files_cause in
+    let blamed = subst (FilesBlamed c.perform-status.result (g.F.Files.faults c.args.files.now)) (sym c.close_all.ensures.faults) files in
+    with_weaker _ (λ all may. ends_exactly c.perform-status.result all _ _ _ _ _ _ blamed c.perform-status.ensures.out_cause read wrote memory may)
     (started (map string_bytes c.args.words.now) (g.F.Files.shelf c.args.files.now).contents (read_as c.in-Ok.request) (g.F.Files.shelf c.start_engine.new.files) c.in-Ok-start_engine.engine _ c.in-Ok.ensures
-    (c.in-Ok-start_engine.ensures.starts told) (c.perform.ensures.meets (subst IsTrue (sym c.in-Ok-start_engine.ensures.same.tells) told)))
+    (c.in-Ok-start_engine.ensures.starts told) (c.perform-status.ensures.meets (subst IsTrue (sym c.in-Ok-start_engine.ensures.same.tells) told)))
 
 pub returns-clause-meets : goal.returns-clause-meets
 returns-clause-meets g c = λ told.
     started (map string_bytes c.args.words.now) (g.F.Files.shelf c.args.files.now).contents (read_as c.in-Ok.request) (g.F.Files.shelf c.start_engine.new.files) c.in-Ok-start_engine.engine _ c.in-Ok.ensures
-    (c.in-Ok-start_engine.ensures.starts told) (c.perform.ensures.meets (subst IsTrue (sym c.in-Ok-start_engine.ensures.same.tells) told))
+    (c.in-Ok-start_engine.ensures.starts told) (c.perform-status.ensures.meets (subst IsTrue (sym c.in-Ok-start_engine.ensures.same.tells) told))
 
 pub returns-clause-files_cause : goal.returns-clause-files_cause
 returns-clause-files_cause g c =
-    let files = subst (λ n. FilesBlamed c.perform.result n (g.F.Files.faults c.perform.new.files)) c.in-Ok-start_engine.ensures.blames c.perform.ensures.files_cause in
-    subst (FilesBlamed c.perform.result (g.F.Files.faults c.args.files.now)) (sym c.close_all.ensures.faults) files
+    let files = subst (λ n. FilesBlamed c.perform-status.result n (g.F.Files.faults c.perform-status.new.files)) c.in-Ok-start_engine.ensures.blames c.perform-status.ensures.files_cause in
+    subst (FilesBlamed c.perform-status.result (g.F.Files.faults c.args.files.now)) (sym c.close_all.ensures.faults) files
 
 pub returns-clause-page : goal.returns-clause-page
 returns-clause-page g c = λ told.
@@ -91,10 +91,10 @@ returns-clause-page g c = λ told.
     let request = read_as c.in-Ok.request in
     with_weaker _ (λ all h. asked_page (asked words) request _ all c.in-Ok.ensures h)
     (started words (g.F.Files.shelf c.args.files.now).contents request (g.F.Files.shelf c.start_engine.new.files) c.in-Ok-start_engine.engine _ c.in-Ok.ensures (c.in-Ok-start_engine.ensures.starts told)
-    (c.perform.ensures.page (subst IsTrue (sym c.in-Ok-start_engine.ensures.same.tells) told)))
+    (c.perform-status.ensures.page (subst IsTrue (sym c.in-Ok-start_engine.ensures.same.tells) told)))
 
 pub returns-clause-document : goal.returns-clause-document
-returns-clause-document g c = asked_document (asked (map string_bytes c.args.words.now)) (read_as c.in-Ok.request) _ _ _ c.in-Ok.ensures c.perform.ensures.document
+returns-clause-document g c = asked_document (asked (map string_bytes c.args.words.now)) (read_as c.in-Ok.request) _ _ _ c.in-Ok.ensures c.perform-status.ensures.document
 
 pub returns-clause-lines : goal.returns-clause-lines
 returns-clause-lines g c = λ told wrote.
@@ -102,10 +102,10 @@ returns-clause-lines g c = λ told wrote.
     let request = read_as c.in-Ok.request in
     with_weaker _ (λ all h. asked_lines (asked words) request all _ _ c.in-Ok.ensures h)
     (started words (g.F.Files.shelf c.args.files.now).contents request (g.F.Files.shelf c.start_engine.new.files) c.in-Ok-start_engine.engine _ c.in-Ok.ensures (c.in-Ok-start_engine.ensures.starts told)
-    (c.perform.ensures.lines (subst IsTrue (sym c.in-Ok-start_engine.ensures.same.tells) told) wrote))
+    (c.perform-status.ensures.lines (subst IsTrue (sym c.in-Ok-start_engine.ensures.same.tells) told) wrote))
 
 pub close_all-requires : goal.close_all-requires
-close_all-requires g c = rw c.input.ensures.value c.perform.ensures.holds.owns.held
+close_all-requires g c = rw c.input.ensures.value c.perform-status.ensures.holds.owns.held
 
 pub returns-clause-closed : goal.returns-clause-closed
-returns-clause-closed g c = c.close_all.ensures.holds.exact (rw c.input.ensures.value c.perform.ensures.holds.owns.all)
+returns-clause-closed g c = c.close_all.ensures.holds.exact (rw c.input.ensures.value c.perform-status.ensures.holds.owns.all)

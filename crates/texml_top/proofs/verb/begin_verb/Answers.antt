@@ -12,4 +12,4 @@ pub returns-clause-files : goal.returns-clause-files
 returns-clause-files c = files_then c.in_ok-begin_group.ensures.files c.make_others.ensures.files
 
 pub returns-clause-puts : goal.returns-clause-puts
-returns-clause-puts c = puts_behind c.make_others.result c.in_ok-begin_group.ensures.puts c.make_others.ensures.puts
+returns-clause-puts c = puts_behind c.make_others.result _ _ _ c.in_ok-begin_group.ensures.puts c.make_others.ensures.puts
