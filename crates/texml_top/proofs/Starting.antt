@@ -6,7 +6,7 @@ use Rattle.texml_base.specs.declared.files.Trouble.{Trouble}
 use Rattle.texml_base.specs.declared.files.Trouble.TheVariants as trouble
 use Rattle.texml_token.specs.declared.fault_code.TheConstants.{MISSING_FILE}
 use Rattle.texml_input.specs.Rest.{no_place}
-use Rattle.texml_input.specs.Held.{File, fresh_file}
+use Rattle.texml_input.specs.Held.{Held as HeldInput, File, fresh_file}
 use Rattle.texml_input.specs.Searching.{names_tried, first_there}
 use Rattle.texml_expand.specs.Held.{Held, state_of}
 use Rattle.texml_top.specs.Outcome.{before, whole_text, main_text}
@@ -16,19 +16,19 @@ use Rattle.texml_top.specs.declared.status.Status.{Status}
 use Rattle.texml_top.specs.declared.status.Status.TheVariants as status
 
 -- an engine with the main file alone in its input
-module _ (old now : Shelf) (name found : List ℕ) (id limit : ℕ) (made started : Held) (empty : IsEmpty name limit made) (opened : IsOpened old now found id)
-  (is : started ≡ record made { input = record made.input { sources = File (fresh_file id found) ∷ made.input.sources } }) where
+module _ (old now : Shelf) (name found : List ℕ) (id limit : ℕ) (made : Held) (input : HeldInput) (empty : IsEmpty name limit made) (opened : IsOpened old now found id)
+  (is : input ≡ record made.input { sources = File (fresh_file id found) ∷ made.input.sources }) where
   -- what it reads
-  alone : started ≡ record made { input = record { sources = File (fresh_file id found) ∷ []; place = no_place; fault = None } }
-  alone = is ∙ ap (λ i. record made { input = record i { sources = File (fresh_file id found) ∷ i.sources } }) empty.input
+  alone : record made { input = input } ≡ record made { input = record { sources = File (fresh_file id found) ∷ []; place = no_place; fault = None } }
+  alone = ap (λ i. record made { input = i }) (is ∙ ap (λ (i : HeldInput). record i { sources = File (fresh_file id found) ∷ i.sources }) empty.input)
 
   text_is : IsTrue old.tells → whole_text old.contents found ≡ whole_text (λ n. Some (now.left id)) found
   text_is told = rw (opened.left told) refl
 
-  pub starts_on : first_there old.contents (names_tried name) ≡ Some found → IsTrue old.tells → IsFirst old.contents name limit (main_text old.contents name) now started
+  pub starts_on : (IsTrue old.tells → first_there old.contents (names_tried name) ≡ Some found) → IsTrue old.tells → IsFirst old.contents name limit (main_text old.contents name) now (record made { input = input })
   starts_on there told = (
     whole_text old.contents found,
-    rw there refl,
+    rw (there told) refl,
     ap (state_of now) alone ∙ rw (empty.world, empty.kept, empty.main, empty.begun, empty.limit, empty.nesting, opened.contents, text_is told) refl,
   )
 
