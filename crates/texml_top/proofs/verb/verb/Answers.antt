@@ -19,10 +19,13 @@ returns-in_err-begin_verb g c = record { does =
 
 pub returns-in_err-text : goal.returns-in_err-text
 returns-in_err-text g c = record { does =
-    let b = c.in_ok-begin_verb.ensures in let old = c.args.engine.now in let mid = c.begin_verb.new.engine in
-    let h = does_then (hears g.T.Teller.wanting g.T.Teller.heard) (hears_part g.T.Teller.wanting g.T.Teller.part) (λ n. begin_verb) behind_begin (lawful_plain begin_verb plain_begin_verb) lawful_behind_begin tt _ old mid _ _ _ _ _ _ _
+    let b = c.in_ok-begin_verb.ensures in let old = c.args.engine.now in let mid = c.begin_verb.new.engine in let far = c.verb_text.new.engine in let e = c.in_err-text.field-0.0 in
+    let x = outside (g.F.Files.shelf c.args.files.now) (g.F.Files.faults c.args.files.now) (g.T.Teller.faults c.args.tell.now) (g.T.Teller.loan c.args.tell.now) in
+    let y = outside (g.F.Files.shelf c.verb_text.new.files) (g.F.Files.faults c.verb_text.new.files) (g.T.Teller.faults c.verb_text.new.tell) (g.T.Teller.loan c.verb_text.new.tell) in
+    let h : Does (hears g.T.Teller.wanting g.T.Teller.heard) (hears_part g.T.Teller.wanting g.T.Teller.part) verb (Err e) old far x y c.args.tell.now c.verb_text.new.tell =
+    does_then (hears g.T.Teller.wanting g.T.Teller.heard) (hears_part g.T.Teller.wanting g.T.Teller.part) (λ n. begin_verb) behind_begin (lawful_plain begin_verb plain_begin_verb) lawful_behind_begin tt (Err e) old mid far _ _ _ _ _ _
     (does_local _ _ begin_verb plain_begin_verb (Ok tt) old mid _ _ c.requires.owns b.begins b.kept b.keeps b.advances b.files b.puts)
-    (does_stop _ _ verb_text (λ text n. end_verb text) lawful_verb_text (λ text. lawful_plain (end_verb text) (plain_end_verb text)) _ mid _ _ _ _ _ b.keeps.sound c.in_err-text.ensures.does) in
+    (does_stop _ _ verb_text (λ text n. end_verb text) lawful_verb_text (λ text. lawful_plain (end_verb text) (plain_end_verb text)) e mid far _ _ _ _ b.keeps.sound c.in_err-text.ensures.does) in
     search (rules, h) }
 
 pub returns : goal.returns
