@@ -24,3 +24,6 @@ returns-in_default g c = record { does =
 pub returns-in-Number : goal.returns-in-Number
 returns-in-Number g c = record { does =
     rw (c.in-Number.is, c.char_of.ensures) (does_now _ _ (give (char_text c.in-Number.code)) (plain_give _) (char_text c.in-Number.code) c.args.engine.now _ _ c.requires.sound c.requires.owns c.requires.running (λ shelf. refl)) }
+
+pub returns-in-Builtin : goal.returns-in-Builtin
+returns-in-Builtin g c = record { does = rw c.in-Builtin.is (rw c.word_at.ensures at c.digest_word.ensures.does) }
