@@ -1,10 +1,22 @@
--- \expandafter and \csname, step by step.
-use Rattle.std.proofs.Common.{◌≡◌, List, [], ◌∷◌, Result, Ok, Err, subst}
+-- \expandafter, \csname and groups, step by step.
+use Rattle.std.proofs.Common.{◌≡◌, ◌+◌, ◌-◌, Bool, true, false, if◌then◌else◌, List, [], ◌∷◌, ◌++◌, length, take, length-append, Result, Ok, Err, ap, ◌∙◌, subst, arith}
+use Rattle.std.proofs.lemmas.List.{length-map, length-take-le}
+use Rattle.texml_base.specs.Outside.{Shelf}
+use Rattle.texml_token.specs.Numbers.{Table, token_at, tokens_at}
+use Rattle.texml_token.specs.declared.tokens.Token.{Token as TokenCode}
+use Rattle.texml_token.specs.declared.fault_code.TheConstants.{FILE_ENDED}
+use Rattle.texml_scope.specs.Texts.{World}
+use Rattle.texml_input.specs.declared.fault.Read.{Read}
+use Rattle.texml_expand.specs.declared.feeding.Verdict.TheVariants.{TooShort, Yields, Refuses}
+use Rattle.texml_expand.specs.declared.gathering.Gathering.{Gathering}
+use Rattle.texml_expand.specs.Braces.{closes}
+use Rattle.texml_expand.specs.Gathering.{judged}
+use Rattle.texml_expand.specs.Fronts.{gathered_count}
 use Rattle.texml_token.specs.Token.{Token}
 use Rattle.texml_watch.specs.declared.record.Record.{Record}
 use Rattle.texml_input.specs.Next.{Taken}
 use Rattle.texml_expand.specs.declared.stop.Stop.{Stop}
-use Rattle.texml_expand.specs.declared.gathering.Gathering.TheVariants.{Name}
+use Rattle.texml_expand.specs.declared.gathering.Gathering.TheVariants.{Name, Group}
 use Rattle.texml_expand.specs.State.{give}
 use Rattle.texml_expand.specs.Calls.{Expandable, Gift, Puts}
 use Rattle.texml_expand.specs.Front.{Front, Plain, Expands, front}
@@ -12,12 +24,32 @@ use Rattle.texml_expand.specs.Expansion.{one_token, behind_first, expand_after}
 use Rattle.texml_expand.specs.Names.{name_of, cs_name}
 use Rattle.texml_expand.specs.Expand.{level}
 use Rattle.texml_expand.specs.Contract.{Outside}
-use Rattle.texml_expand.specs.Held.{Held}
+use Rattle.texml_expand.specs.Held.{Held, read_at, Shrinks}
 use Rattle.texml_expand.specs.Doing.{Does}
 use Rattle.texml_expand.proofs.Lawful.{lawful_give, lawful_expand, lawful_gather}
 use Rattle.texml_expand.proofs.Standing.{lawful_front}
 use Rattle.texml_expand.proofs.Giving.{lawful_one_token, lawful_behind_first, second_behind, lawful_second_behind, lawful_name_of}
+use Rattle.texml_expand.proofs.Running.{shrinks_then}
 use Rattle.texml_expand.proofs.Doing.{does_stop, does_then}
+
+-- a group has as many tokens as were gathered before its end
+group_by : (seen list : List Token) (t : Token) (crossed closed : Bool) → Yields list ≡ (if crossed then Refuses FILE_ENDED else if closed then Yields (take (length (seen ++ t ∷ []) - 1) (seen ++ t ∷ [])) else TooShort) → length list ≡ length seen
+group_by seen list t true closed e = cc
+group_by seen list t false true e =
+    let is : list ≡ take (length (seen ++ t ∷ []) - 1) (seen ++ t ∷ []) = cc in
+    let one = length-append seen (t ∷ []) in
+    ap length is ∙ length-take-le (length (seen ++ t ∷ []) - 1) (seen ++ t ∷ []) (omega arith) ∙ (omega arith)
+group_by seen list t false false e = cc
+
+group_length : (w : World) (seen list : List Token) (t : Taken) → Yields list ≡ judged Group w seen t → length list ≡ length seen
+group_length w seen list t e = group_by seen list t.token t.crossed (closes (seen ++ t.token ∷ [])) e
+
+pub gathered_shrinks : (k : Gathering) (texts : Table) (w : World) (seen list : List TokenCode) (t : Read) (a b c : Shelf) (old now mid : Held) → Shrinks (length seen) a old b now → Shrinks 1 b now c mid
+    → Yields (tokens_at texts list) ≡ judged k w (tokens_at texts seen) (read_at texts t) → Shrinks (gathered_count k list) a old c mid
+gathered_shrinks Group texts w seen list t a b c old now mid i low is =
+    let same = group_length w (tokens_at texts seen) (tokens_at texts list) (read_at texts t) is in
+    shrinks_then (length seen) 1 (length list + 1) a b c old now mid i low (omega (arith, same, length-map seen (token_at texts), length-map list (token_at texts)))
+gathered_shrinks k texts w seen list t a b c old now mid i low is = shrinks_then (length seen) 1 0 a b c old now mid i low (omega arith)
 
 module _ {T : Type 0} (hear part : T → Record → T → Type 0) where
   -- the first token can't be taken, or it is this one

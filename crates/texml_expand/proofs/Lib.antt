@@ -27,6 +27,7 @@ pub mod Counting
 pub mod Spelled
 pub mod Named
 pub mod Behind
+pub mod Absorbing
 pub mod Judging
 pub mod Faces
 pub mod Fronts

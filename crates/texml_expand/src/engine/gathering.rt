@@ -7,7 +7,7 @@ ghost use Rattle.texml_scope.specs.Texts.{World};
 ghost use Rattle.texml_scope.specs.Numbers.{meaning_at};
 ghost use Rattle.texml_expand.specs.Gathering.{doubled as doubled_list, copies as spec_copies, copied as spec_copied, kept_of, returned as spec_returned, ends_name as spec_ends_name, is_relation as spec_is_relation, judged as spec_judged, of_relation as spec_of_relation};
 ghost use Rattle.texml_expand.specs.Quantities.{counts_as as spec_counts_as, shown as spec_shown};
-ghost use Rattle.texml_expand.specs.Fronts.{at_once, expandable_at, ExpandableWithin, verdict_at, VerdictWithin, PartsWithin};
+ghost use Rattle.texml_expand.specs.Fronts.{gathered_count, at_once, expandable_at, ExpandableWithin, verdict_at, VerdictWithin, PartsWithin};
 ghost use Rattle.texml_expand.specs.VariableCodes.{internal_at, InternalWithin};
 ghost use Rattle.texml_expand.specs.Expand.{level};
 ghost use Rattle.texml_expand.specs.Held.{state_of, world_in, Sound, Kept, Progress, IsAtLimit, ok_at, read_at, Owns, SameFiles, Shrinks, Begun};
@@ -51,7 +51,7 @@ impl Engine {
         requires owns { Owns (F.shelf files.old) self.old }
         ensures does { Does (hears T.wanting T.heard) (hears_part T.wanting T.part)
             (λ n. (level n).gather gathering []) (ok_at (tokens_at self.new.names) result) self.old self.new (outside (F.shelf files.old) (F.faults files.old) (T.faults tell.old) (T.loan tell.old)) (outside (F.shelf files.new) (F.faults files.new) (T.faults tell.new) (T.loan tell.new)) tell.old tell.new }
-        ensures lower { OnOk result (Shrinks 0 (F.shelf files.old) self.old (F.shelf files.new) self.new) }
+        ensures lower { IfOk result (λ list. Shrinks (gathered_count gathering list) (F.shelf files.old) self.old (F.shelf files.new) self.new) }
         ensures within { IfOk result (TokensWithin (length self.new.names)) }
     {
         let mut gathered = Gathered::new(self.alloc);
