@@ -1,5 +1,5 @@
 -- What is decided on tokens that are gathered, and what is taken at once of what \the gives, by the code's numbers.
-use Rattle.std.proofs.Common.{◌≡◌, ◌-◌, ℕ, Result, Ok, Err, Bool, true, false, if◌then◌else◌, List, [], ◌∷◌, ◌++◌, length, take, refl, sym, ap, ◌∙◌, subst}
+use Rattle.std.proofs.Common.{◌≡◌, ◌-◌, ℕ, zero, suc, Result, Ok, Err, Bool, true, false, if◌then◌else◌, List, [], ◌∷◌, ◌++◌, length, take, refl, sym, ap, ◌∙◌, subst}
 use Rattle.std.specs.Result.{IfOk}
 use Rattle.std.proofs.lemmas.List.Elements.{All-nil}
 use Rattle.texml_token.specs.Token.{Token}
@@ -50,15 +50,15 @@ module _ (texts : Table) (w : World) (seen : List Token) where
   name_by (suc k) = refl
 
   name_on : (t : TokenCode) → ((c k : ℕ) → t ≡ tokens.Char c k → ⊥) → of_name w seen (token_at texts t) ≡ (if ends_name (means w (token_at texts t)) then Yields seen else Refuses MISSING_ENDCSNAME)
-  name_on (tokens.Char c k) no = absurd (no c k refl)
-  name_on (tokens.Active c) no = refl
-  name_on (tokens.Param n) no = refl
-  name_on (tokens.Named n) no = name_by n.0
+  name_on (tokens.Char c k) other = absurd (other c k refl)
+  name_on (tokens.Active c) other = refl
+  name_on (tokens.Param n) other = refl
+  name_on (tokens.Named n) other = name_by n.0
 
   pub name_ends : (t : TokenCode) → ((c k : ℕ) → t ≡ tokens.Char c k → ⊥) → (x : Token) → token_at texts t ≡ x → (m : MeaningCode) → meaning_at texts m ≡ means w (token_at texts t) → (b : Bool) → b ≡ ends_name (meaning_at texts m)
       → (if b then Yields seen else Refuses MISSING_ENDCSNAME) ≡ of_name w seen x
-  name_ends t no x e m i b d =
-      sym (ap (of_name w seen) (sym e) ∙ name_on t no ∙ ap (λ m. if ends_name m then Yields seen else Refuses MISSING_ENDCSNAME) (sym i) ∙ ap (λ b. if b then Yields seen else Refuses MISSING_ENDCSNAME) (sym d))
+  name_ends t other x e m i b d =
+      sym (ap (of_name w seen) (sym e) ∙ name_on t other ∙ ap (λ m. if ends_name m then Yields seen else Refuses MISSING_ENDCSNAME) (sym i) ∙ ap (λ b. if b then Yields seen else Refuses MISSING_ENDCSNAME) (sym d))
 
 -- of a quantity all goes back, and nothing is taken
 pub quantity_back : (texts : Table) (q : InternalCode) → ((list : List TokenCode) → q ≡ internals.Tokens list → ⊥) → returned (internal_at texts q) ≡ shown (internal_at texts q)
