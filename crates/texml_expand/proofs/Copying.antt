@@ -5,7 +5,8 @@ use Rattle.texml_base.specs.Outside.{Shelf}
 use Rattle.texml_token.specs.Token.{Token}
 use Rattle.texml_watch.specs.declared.record.Record.{Record}
 use Rattle.texml_expand.specs.declared.stop.Stop.{Stop}
-use Rattle.texml_expand.specs.Quantities.{Internal, next_internal}
+use Rattle.texml_expand.specs.Variables.{Internal}
+use Rattle.texml_expand.specs.Quantities.{next_internal}
 use Rattle.texml_expand.specs.Gathering.{copied, copy_by}
 use Rattle.texml_expand.specs.Begin.{begin}
 use Rattle.texml_expand.specs.Expand.{level}
