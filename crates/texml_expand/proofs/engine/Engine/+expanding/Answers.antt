@@ -66,7 +66,7 @@ use Rattle.texml_expand.specs.Names.{name_of}
 use Rattle.texml_expand.specs.Fronts.{gift_at}
 use Rattle.texml_expand.proofs.Standing.{lawful_front}
 use Rattle.texml_expand.proofs.Giving.{lawful_one_token, lawful_behind_first, lawful_name_of}
-use Rattle.texml_expand.proofs.Running.{shrinks_begun, ok_puts}
+use Rattle.texml_expand.proofs.Running.{ok_puts}
 use Rattle.texml_expand.proofs.Behind.{after_stops, after_first, second_stops, second_is, behind_plain, behind_stops, behind_expands, name_stops, name_does}
 use Rattle.texml_expand.proofs.engine.Engine.+expanding.Goals as goal
 
@@ -1214,8 +1214,8 @@ expand_after-returns-in_err-expand-in-Expands-clause-does g t c =
         (second_is (hears T.wanting T.heard) (hears_part T.wanting T.part) first (fronts.Expands second x) _ _ _ _ _ _ _ _ _ _ k (behind_stops (hears T.wanting T.heard) (hears_part T.wanting T.part) first second x _ _ _ _ _ _ _ c.in_err-expand-in-Expands.ensures.does)) in
     search (rules, h)
 
-pub expand_after-returns-in-Expands-clause-does : goal.expand_after-returns-in-Expands-clause-does
-expand_after-returns-in-Expands-clause-does g t c =
+pub expand_after-returns-in_ok-expand-in-Expands-clause-does : goal.expand_after-returns-in-Expands-clause-does
+expand_after-returns-in_ok-expand-in-Expands-clause-does g t c =
     let T = g.T.Teller in
     let F = g.F.Files in
     let tell = c.args.tell.now in
@@ -1243,12 +1243,6 @@ pub expand_after-returns-in-Plain-clause-lower : goal.expand_after-returns-in-Pl
 expand_after-returns-in-Plain-clause-lower g t c =
     let second = rw c.in-Plain.is at c.in_ok-front.ensures.lower in
     ok_same c.puts.result 0 _ _ _ c.front.new.self c.puts.new.self (shrinks_then 1 1 0 _ _ _ _ c.one_token.new.self _ c.in_ok-first.ensures.lower second (omega arith)) c.puts.ensures.same
-
-pub expand_after-returns-in-Expands-clause-lower : goal.expand_after-returns-in-Expands-clause-lower
-expand_after-returns-in-Expands-clause-lower g t c =
-    let second = rw c.in-Expands.is at c.in_ok-front.ensures.lower in
-    let before = shrinks_then 1 1 1 _ _ _ _ c.one_token.new.self _ c.in_ok-first.ensures.lower second (omega arith) in
-    ok_same c.puts-in-Expands.result 0 _ _ _ c.expand.new.self c.puts-in-Expands.new.self (shrinks_begun 1 0 _ _ _ _ c.front.new.self _ before c.in_ok-expand-in-Expands.ensures.begins) c.puts-in-Expands.ensures.same
 
 -- \csname
 
