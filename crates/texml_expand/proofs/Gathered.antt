@@ -12,6 +12,7 @@ use Rattle.texml_token.proofs.Translation.{tokens_kept, tokens_more}
 use Rattle.texml_watch.specs.declared.record.Record.{Record}
 use Rattle.texml_input.specs.declared.fault.Read.{Read}
 use Rattle.texml_expand.specs.declared.stop.Stop.{Stop}
+use Rattle.texml_expand.specs.declared.stop.Stop.TheVariants as stop
 use Rattle.texml_expand.specs.declared.feeding.Verdict.TheVariants.{TooShort, Yields, Refuses}
 use Rattle.texml_expand.specs.declared.gathering.Gathering.{Gathering}
 use Rattle.texml_expand.specs.Calls.{Expandable, Calls}
@@ -27,7 +28,7 @@ use Rattle.texml_expand.proofs.Running.{shrinks_none, shrinks_then, shrinks_begu
 use Rattle.texml_expand.proofs.Lawful.{Lawful, lawful_give, lawful_then, lawful_expand, lawful_gather, lawful_copy}
 use Rattle.texml_expand.proofs.Total.{total, gather_is}
 use Rattle.texml_expand.proofs.Groups.{pushed}
-use Rattle.texml_expand.proofs.Doing.{Did, does_of, did_of, did_as, did_then, did_stop, did_now, did_fault}
+use Rattle.texml_expand.proofs.Doing.{Did, does_of, did_of, did_as, did_then, did_stop, did_now, did_fault, did_out, does_then, does_stop, does_now}
 
 pub lawful_at_once : (t : Token) (e : Expandable) (b : Bool) → Lawful (λ c. at_once c t e b)
 lawful_at_once t e true = lawful_copy t
@@ -156,3 +157,26 @@ module _ {T : Type 0} (hear part : T → Record → T → Type 0) (k : Gathering
       (did_as hear part _ _ (Err e) mid new m h b c (expansion_parted total k (tokens_at now.names seen) t x (copies k x) (state_of m.shelf mid))
       (did_stop hear part (at_once total t x (copies k x) (state_of m.shelf mid)) (λ l. total.gather k (tokens_at now.names seen ++ l)) e mid new m h b c
       (did_of hear part (λ c. at_once c t x (copies k x)) (lawful_at_once t x (copies k x)) (Err e) mid new m h b c u)))
+
+  -- memory is short behind it
+  pub gather_short : (t : Token) (x : Expandable) (list : List TokenCode) (e : Stop) (old now mid new z : Held) (f g m h : Outside) (a b c : T) (seen : List TokenCode) → Gathers old f a seen now g b → Did hear part (front (state_of g.shelf now)) (Ok (Expands t x)) now mid g m b b
+      → Does hear part (λ n. at_once (level n) t x (copies k x)) (Ok (tokens_at new.names list)) mid new m h b c → e ≡ stop.NoMemory → z ≡ record new { stop = Some stop.NoMemory } → Does hear part (λ n. (level n).gather k []) (Err e) old z f h a c
+  gather_short t x list e old now mid new z f g m h a b c seen i d u is kept =
+      gather_broken (Expands t x) (Err e) old now mid z f g m h a b c seen i d
+      (did_as hear part _ _ (Err e) mid z m h b c (expansion_parted total k (tokens_at now.names seen) t x (copies k x) (state_of m.shelf mid))
+      (did_then hear part (at_once total t x (copies k x) (state_of m.shelf mid)) (λ l. total.gather k (tokens_at now.names seen ++ l)) (tokens_at new.names list) (Err e) mid new z m h h b c c
+      (did_of hear part (λ c. at_once c t x (copies k x)) (lawful_at_once t x (copies k x)) (Ok (tokens_at new.names list)) mid new m h b c u) (did_out hear part _ e new z h c is kept u.holds.owns)))
+
+module _ {T : Type 0} (hear part : T → Record → T → Type 0) where
+  -- what an expansion gives at once: what \the does, or nothing
+  pub once_copied : (t : Token) (x : Expandable) (b : Bool) (r : Result (List Token) Stop) (old new : Held) (f g : Outside) (a c : T) → b ≡ true → Does hear part (λ n. (level n).copy t) r old new f g a c → Does hear part (λ n. at_once (level n) t x b) r old new f g a c
+  once_copied t x b r old new f g a c e d = subst (λ y. Does hear part (λ n. at_once (level n) t x y) r old new f g a c) (sym e) d
+
+  pub once_stops : (t : Token) (x : Expandable) (b : Bool) (e : Stop) (old new : Held) (f g : Outside) (a c : T) → b ≡ false → Does hear part (λ n. (level n).expand t x) (Err e) old new f g a c → Does hear part (λ n. at_once (level n) t x b) (Err e) old new f g a c
+  once_stops t x b e old new f g a c is d =
+      subst (λ y. Does hear part (λ n. at_once (level n) t x y) (Err e) old new f g a c) (sym is) (does_stop hear part (λ c. c.expand t x) (λ _ c. give []) (lawful_expand t x) (λ _. lawful_give []) e old new f g a c d)
+
+  pub once_expanded : (t : Token) (x : Expandable) (b : Bool) (old new : Held) (f g : Outside) (a c : T) → b ≡ false → Does hear part (λ n. (level n).expand t x) (Ok tt) old new f g a c → Does hear part (λ n. at_once (level n) t x b) (Ok []) old new f g a c
+  once_expanded t x b old new f g a c is d =
+      subst (λ y. Does hear part (λ n. at_once (level n) t x y) (Ok []) old new f g a c) (sym is)
+      (does_then hear part (λ c. c.expand t x) (λ _ c. give []) (lawful_expand t x) (λ _. lawful_give []) tt (Ok []) old new new f g g a c c d (does_now hear part [] new g c d.keeps.sound d.stops.kept d.holds.owns))

@@ -216,6 +216,7 @@ impl Engine {
         requires owns { Owns (F.shelf files.old) self.old }
         ensures gets { Gets spec_front (ok_at (front_at self.new.names) result) self.old self.new (files_at (F.shelf files.old) (F.faults files.old)) (files_at (F.shelf files.new) (F.faults files.new)) }
         ensures lower { IfOk result (λ f. Shrinks (front_count f) (F.shelf files.old) self.old (F.shelf files.new) self.new) }
+        ensures begun { OnOk result (self.new.begun ≡ self.old.begun) }
         ensures within { IfOk result (FrontWithin (length self.new.names)) }
     {
         match self.take_front(files)? {

@@ -56,27 +56,31 @@ impl Engine {
     {
         let mut gathered = Gathered::new(self.alloc);
         'rounds: loop {
-            let begun = self.begun();
             'tokens: loop {
-                let more = match self.front(files)? {
+                match self.front(files)? {
                     Front::Nothing => return Err(self.bare_fault(fault_code::FILE_ENDED)),
-                    Front::Plain(read) => match self.judged(gathering, &gathered, read) {
-                        Ok(Verdict::TooShort) => gathered.push(read.token),
-                        Ok(Verdict::Yields(list)) => return Ok(list),
-                        Ok(Verdict::Refuses(code)) => return Err(self.bare_fault(code)),
-                        Err(_) => return Err(self.no_memory()),
-                    },
+                    Front::Plain(read) => {
+                        let verdict = match self.judged(gathering, &gathered, read) {
+                            Ok(verdict) => verdict,
+                            Err(_) => return Err(self.no_memory()),
+                        };
+                        match verdict {
+                            Verdict::TooShort => match gathered.push(read.token) {
+                                Ok(()) => {}
+                                Err(_) => return Err(self.no_memory()),
+                            },
+                            Verdict::Yields(list) => return Ok(list),
+                            Verdict::Refuses(code) => return Err(self.bare_fault(code)),
+                        }
+                    }
                     Front::Expands(token, found) => {
                         let list = self.at_once(files, tell, gathering, token, found, deep)?;
-                        gathered.extend(&list)
+                        match gathered.extend(&list) {
+                            Ok(()) => {}
+                            Err(_) => return Err(self.no_memory()),
+                        }
+                        break;
                     }
-                };
-                match more {
-                    Ok(()) => {}
-                    Err(_) => return Err(self.no_memory()),
-                }
-                if self.begun() != begun {
-                    break;
                 }
             }
         }

@@ -68,6 +68,9 @@ use Rattle.texml_expand.proofs.Standing.{lawful_front}
 use Rattle.texml_expand.proofs.Giving.{lawful_one_token, lawful_behind_first, lawful_name_of}
 use Rattle.texml_expand.proofs.Running.{ok_puts}
 use Rattle.texml_expand.proofs.Behind.{after_stops, after_first, second_stops, second_is, behind_plain, behind_stops, behind_expands, name_stops, name_does}
+use Rattle.texml_expand.specs.Front.{Plain}
+use Rattle.texml_expand.specs.Gathering.{copies}
+use Rattle.texml_expand.proofs.Gathered.{gather_stops, gather_ends, gather_broken, gather_yields, gather_refuses, gathers_token, gathers_expansion, gather_unexpanded, gather_short, once_stops, once_expanded}
 use Rattle.texml_expand.proofs.engine.Engine.+expanding.Goals as goal
 
 pub expand-returns-clause-does : goal.expand-returns-clause-does
@@ -1214,7 +1217,7 @@ expand_after-returns-in_err-expand-in-Expands-clause-does g t c =
         (second_is (hears T.wanting T.heard) (hears_part T.wanting T.part) first (fronts.Expands second x) _ _ _ _ _ _ _ _ _ _ k (behind_stops (hears T.wanting T.heard) (hears_part T.wanting T.part) first second x _ _ _ _ _ _ _ c.in_err-expand-in-Expands.ensures.does)) in
     search (rules, h)
 
-pub expand_after-returns-in_ok-expand-in-Expands-clause-does : goal.expand_after-returns-in-Expands-clause-does
+pub expand_after-returns-in_ok-expand-in-Expands-clause-does : goal.expand_after-returns-in_ok-expand-in-Expands-clause-does
 expand_after-returns-in_ok-expand-in-Expands-clause-does g t c =
     let T = g.T.Teller in
     let F = g.F.Files in
@@ -1270,6 +1273,141 @@ cs_name-returns-clause-does g t c =
 
 pub cs_name-returns-clause-lower : goal.cs_name-returns-clause-lower
 cs_name-returns-clause-lower g t c = ok_puts c.named.result 0 0 0 _ _ _ c.gather.new.self c.named.new.self c.in_ok-list.ensures.lower c.named.ensures.puts (omega arith)
+
+-- Gathering
+
+pub gather-returns-in_err-front-clause-does : goal.gather-returns-in_err-front-clause-does
+gather-returns-in_err-front-clause-does g t c =
+    let T = g.T.Teller in
+    let F = g.F.Files in
+    let i = c.tokens.invariant.on in
+    let mid = c.front.new.self in
+    let tell = c.tokens.tell in
+    let d = did_gets (hears T.wanting T.heard) (hears_part T.wanting T.part) front _ c.tokens.self mid _ _ _ _ (T.faults tell) (T.loan tell) tell c.in_err-front.ensures.gets in
+    let h = gather_stops (hears T.wanting T.heard) (hears_part T.wanting T.part) c.args.gathering _ _ _ _ _ _ _ _ _ _ i d in
+    search (rules, h)
+
+pub gather-returns-in-Nothing-clause-does : goal.gather-returns-in-Nothing-clause-does
+gather-returns-in-Nothing-clause-does g t c =
+    let T = g.T.Teller in
+    let F = g.F.Files in
+    let i = c.tokens.invariant.on in
+    let mid = c.front.new.self in
+    let tell = c.tokens.tell in
+    let d = front_did (hears T.wanting T.heard) (hears_part T.wanting T.part) _ _ c.tokens.self mid _ _ _ _ (T.faults tell) (T.loan tell) tell c.in-Nothing.is c.in_ok-front.ensures.gets in
+    let e = c.bare_fault-in-Nothing.ensures in
+    gather_ends (hears T.wanting T.heard) (hears_part T.wanting T.part) c.args.gathering _ _ _ mid _ _ _ _ _ _ _ i d e.is e.kept
+
+pub gather-returns-in-Err-clause-does : goal.gather-returns-in-Err-clause-does
+gather-returns-in-Err-clause-does g t c =
+    let T = g.T.Teller in
+    let F = g.F.Files in
+    let i = c.tokens.invariant.on in
+    let mid = c.front.new.self in
+    let tell = c.tokens.tell in
+    let d = front_did (hears T.wanting T.heard) (hears_part T.wanting T.part) _ _ c.tokens.self mid _ _ _ _ (T.faults tell) (T.loan tell) tell c.in-Plain.is c.in_ok-front.ensures.gets in
+    let files = c.front.new.files in
+    let e = c.no_memory.ensures in
+    gather_broken (hears T.wanting T.heard) (hears_part T.wanting T.part) c.args.gathering (Plain (read_at mid.names c.in-Plain.read)) _ _ _ mid _ _ _ _ _ _ _ _ _ i d (did_out (hears T.wanting T.heard) (hears_part T.wanting T.part) _ c.no_memory.result mid c.no_memory.new.self (outside (F.shelf files) (F.faults files) (T.faults tell) (T.loan tell)) tell e.is e.kept d.holds.owns)
+
+pub gather-returns-in-Err-push-clause-does : goal.gather-returns-in-Err-push-clause-does
+gather-returns-in-Err-push-clause-does g t c =
+    let T = g.T.Teller in
+    let F = g.F.Files in
+    let i = c.tokens.invariant.on in
+    let mid = c.front.new.self in
+    let tell = c.tokens.tell in
+    let d = front_did (hears T.wanting T.heard) (hears_part T.wanting T.part) _ _ c.tokens.self mid _ _ _ _ (T.faults tell) (T.loan tell) tell c.in-Plain.is c.in_ok-front.ensures.gets in
+    let files = c.front.new.files in
+    let e = c.no_memory-in-Err-push.ensures in
+    gather_broken (hears T.wanting T.heard) (hears_part T.wanting T.part) c.args.gathering (Plain (read_at mid.names c.in-Plain.read)) _ _ _ mid _ _ _ _ _ _ _ _ _ i d (did_out (hears T.wanting T.heard) (hears_part T.wanting T.part) _ c.no_memory-in-Err-push.result mid c.no_memory-in-Err-push.new.self (outside (F.shelf files) (F.faults files) (T.faults tell) (T.loan tell)) tell e.is e.kept d.holds.owns)
+
+pub gather-returns-in-Yields-clause-does : goal.gather-returns-in-Yields-clause-does
+gather-returns-in-Yields-clause-does g t c =
+    let T = g.T.Teller in
+    let F = g.F.Files in
+    let i = c.tokens.invariant.on in
+    let mid = c.front.new.self in
+    let tell = c.tokens.tell in
+    let d = front_did (hears T.wanting T.heard) (hears_part T.wanting T.part) _ _ c.tokens.self mid _ _ _ _ (T.faults tell) (T.loan tell) tell c.in-Plain.is c.in_ok-front.ensures.gets in
+    let is = rw c.in-Yields.is at c.in-Ok.ensures.is in
+    gather_yields (hears T.wanting T.heard) (hears_part T.wanting T.part) c.args.gathering (tokens_at mid.names c.in-Yields.list) c.in-Plain.read _ _ mid _ _ _ _ _ _ i d is
+
+pub gather-returns-in-Refuses-clause-does : goal.gather-returns-in-Refuses-clause-does
+gather-returns-in-Refuses-clause-does g t c =
+    let T = g.T.Teller in
+    let F = g.F.Files in
+    let i = c.tokens.invariant.on in
+    let mid = c.front.new.self in
+    let tell = c.tokens.tell in
+    let d = front_did (hears T.wanting T.heard) (hears_part T.wanting T.part) _ _ c.tokens.self mid _ _ _ _ (T.faults tell) (T.loan tell) tell c.in-Plain.is c.in_ok-front.ensures.gets in
+    let is = rw c.in-Refuses.is at c.in-Ok.ensures.is in
+    let e = c.bare_fault.ensures in
+    gather_refuses (hears T.wanting T.heard) (hears_part T.wanting T.part) c.args.gathering c.in-Refuses.code _ c.in-Plain.read _ _ mid _ _ _ _ _ _ _ i d is e.is e.kept
+
+pub gather-tokens-preserved : goal.gather-tokens-preserved
+gather-tokens-preserved g t c =
+    let T = g.T.Teller in
+    let F = g.F.Files in
+    let i = c.tokens.invariant.on in
+    let mid = c.front.new.self in
+    let tell = c.tokens.tell in
+    let d = front_did (hears T.wanting T.heard) (hears_part T.wanting T.part) _ _ c.tokens.self mid _ _ _ _ (T.faults tell) (T.loan tell) tell c.in-Plain.is c.in_ok-front.ensures.gets in
+    let is = rw c.in-TooShort.is at c.in-Ok.ensures.is in
+    let low = rw c.in-Plain.is at c.in_ok-front.ensures.lower in
+    let within = rw c.in-Plain.is at c.in_ok-front.ensures.within in
+    let on = gathers_token (hears T.wanting T.heard) (hears_part T.wanting T.part) c.args.gathering c.in-Plain.read _ _ mid _ _ _ _ _ _ i d low within is in
+    record { on = rw c.in-Ok-push.ensures on; begun = c.in_ok-front.ensures.begun ∙ c.tokens.invariant.begun; limit = d.progress.limit ∙ c.tokens.invariant.limit }
+
+pub gather-returns-in_err-list-in-Expands-clause-does : goal.gather-returns-in_err-list-in-Expands-clause-does
+gather-returns-in_err-list-in-Expands-clause-does g t c =
+    let T = g.T.Teller in
+    let F = g.F.Files in
+    let i = c.tokens.invariant.on in
+    let mid = c.front.new.self in
+    let tell = c.tokens.tell in
+    let d = front_did (hears T.wanting T.heard) (hears_part T.wanting T.part) _ _ c.tokens.self mid _ _ _ _ (T.faults tell) (T.loan tell) tell c.in-Expands.is c.in_ok-front.ensures.gets in
+    let h = gather_unexpanded (hears T.wanting T.heard) (hears_part T.wanting T.part) c.args.gathering (token_at mid.names c.in-Expands.token) (expandable_at mid.names c.in-Expands.found) _ _ _ mid _ _ _ _ _ _ _ _ _ i d c.in_err-list-in-Expands.ensures.does in
+    search (rules, h)
+
+pub gather-returns-in-Err-extend-clause-does : goal.gather-returns-in-Err-extend-clause-does
+gather-returns-in-Err-extend-clause-does g t c =
+    let T = g.T.Teller in
+    let F = g.F.Files in
+    let i = c.tokens.invariant.on in
+    let mid = c.front.new.self in
+    let tell = c.tokens.tell in
+    let d = front_did (hears T.wanting T.heard) (hears_part T.wanting T.part) _ _ c.tokens.self mid _ _ _ _ (T.faults tell) (T.loan tell) tell c.in-Expands.is c.in_ok-front.ensures.gets in
+    let e = c.no_memory-in-Err-extend.ensures in
+    gather_short (hears T.wanting T.heard) (hears_part T.wanting T.part) c.args.gathering (token_at mid.names c.in-Expands.token) (expandable_at mid.names c.in-Expands.found) c.in_ok-list-in-Expands.list _ _ _ mid c.at_once.new.self _ _ _ _ _ _ _ _ _ i d c.in_ok-list-in-Expands.ensures.does e.is e.kept
+
+pub gather-rounds-preserved : goal.gather-rounds-preserved
+gather-rounds-preserved g t c =
+    let T = g.T.Teller in
+    let F = g.F.Files in
+    let i = c.tokens.invariant.on in
+    let mid = c.front.new.self in
+    let tell = c.tokens.tell in
+    let d = front_did (hears T.wanting T.heard) (hears_part T.wanting T.part) _ _ c.tokens.self mid _ _ _ _ (T.faults tell) (T.loan tell) tell c.in-Expands.is c.in_ok-front.ensures.gets in
+    let x = c.in_ok-list-in-Expands.ensures in
+    let low = rw c.in-Expands.is at c.in_ok-front.ensures.lower in
+    let on = gathers_expansion (hears T.wanting T.heard) (hears_part T.wanting T.part) c.args.gathering (token_at mid.names c.in-Expands.token) (expandable_at mid.names c.in-Expands.found) c.in_ok-list-in-Expands.list _ _ mid c.at_once.new.self _ _ _ _ _ _ _ _ i d low x.does x.begins x.within in
+    rw c.in-Ok-extend.ensures on
+
+pub at_once-returns-in_err-expand-clause-does : goal.at_once-returns-in_err-expand-clause-does
+at_once-returns-in_err-expand-clause-does g t c =
+    let T = g.T.Teller in
+    let mine = c.args.self.now in
+    let is = sym (c.copies.ensures mine.names) ∙ c.if-copies.false in
+    let h = once_stops (hears T.wanting T.heard) (hears_part T.wanting T.part) (token_at mine.names c.args.token) (expandable_at mine.names c.args.found) (copies c.args.gathering (expandable_at mine.names c.args.found)) _ _ _ _ _ _ _ is c.in_err-expand.ensures.does in
+    search (rules, h)
+
+pub at_once-returns-in_ok-expand-clause-does : goal.at_once-returns-in_ok-expand-clause-does
+at_once-returns-in_ok-expand-clause-does g t c =
+    let T = g.T.Teller in
+    let mine = c.args.self.now in
+    let is = sym (c.copies.ensures mine.names) ∙ c.if-copies.false in
+    rw c.new.ensures (once_expanded (hears T.wanting T.heard) (hears_part T.wanting T.part) (token_at mine.names c.args.token) (expandable_at mine.names c.args.found) (copies c.args.gathering (expandable_at mine.names c.args.found)) _ _ _ _ _ _ is c.in_ok-expand.ensures.does)
 
 -- what \the gives at once
 
