@@ -1295,7 +1295,7 @@ gather-returns-in-Nothing-clause-does g t c =
     let mid = c.front.new.self in
     let tell = c.tokens.tell in
     let d = front_did (hears T.wanting T.heard) (hears_part T.wanting T.part) _ _ c.tokens.self mid _ _ _ _ (T.faults tell) (T.loan tell) tell c.in-Nothing.is c.in_ok-front.ensures.gets in
-    let e = c.bare_fault-in-Nothing.ensures in
+    let e = c.bare_fault.ensures in
     gather_ends (hears T.wanting T.heard) (hears_part T.wanting T.part) c.args.gathering _ _ _ mid _ _ _ _ _ _ _ i d e.is e.kept
 
 pub gather-returns-in-Err-clause-does : goal.gather-returns-in-Err-clause-does
@@ -1342,7 +1342,7 @@ gather-returns-in-Refuses-clause-does g t c =
     let tell = c.tokens.tell in
     let d = front_did (hears T.wanting T.heard) (hears_part T.wanting T.part) _ _ c.tokens.self mid _ _ _ _ (T.faults tell) (T.loan tell) tell c.in-Plain.is c.in_ok-front.ensures.gets in
     let is = rw c.in-Refuses.is at c.in-Ok.ensures.is in
-    let e = c.bare_fault.ensures in
+    let e = c.bare_fault-in-Refuses.ensures in
     gather_refuses (hears T.wanting T.heard) (hears_part T.wanting T.part) c.args.gathering c.in-Refuses.code _ c.in-Plain.read _ _ mid _ _ _ _ _ _ _ i d is e.is e.kept
 
 pub gather-tokens-preserved : goal.gather-tokens-preserved
@@ -1368,7 +1368,7 @@ gather-returns-in_err-list-in-Expands-clause-does g t c =
     let tell = c.tokens.tell in
     let d = front_did (hears T.wanting T.heard) (hears_part T.wanting T.part) _ _ c.tokens.self mid _ _ _ _ (T.faults tell) (T.loan tell) tell c.in-Expands.is c.in_ok-front.ensures.gets in
     let h = gather_unexpanded (hears T.wanting T.heard) (hears_part T.wanting T.part) c.args.gathering (token_at mid.names c.in-Expands.token) (expandable_at mid.names c.in-Expands.found) _ _ _ mid _ _ _ _ _ _ _ _ _ i d c.in_err-list-in-Expands.ensures.does in
-    search (rules, h)
+    rw (passed_on c.from_residual-in_err-list-in-Expands.result c.in_err-list-in-Expands.field-0.0 c.from_residual-in_err-list-in-Expands.ensures) h
 
 pub gather-returns-in-Err-extend-clause-does : goal.gather-returns-in-Err-extend-clause-does
 gather-returns-in-Err-extend-clause-does g t c =
