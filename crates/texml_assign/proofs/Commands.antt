@@ -7,7 +7,7 @@ use Rattle.texml_scope.specs.declared.values.KindOf.TheVariants.{Begin}
 use Rattle.texml_expand.specs.State.{State, give, fail, change}
 use Rattle.texml_expand.specs.Expand.{back, fetch}
 use Rattle.texml_expand.specs.Contract.{Lower}
-use Rattle.texml_expand.specs.Rest.{Tok}
+use Rattle.texml_input.specs.Rest.{Tok}
 use Rattle.texml_expand.proofs.Items.{size-cons}
 use Rattle.texml_expand.proofs.Leading.{lower_none}
 use Rattle.texml_assign.specs.declared.table.Prefix.{Prefix as PrefixWord}
@@ -42,7 +42,7 @@ put_kept_lower s (Some t) e =
     same_room s (back t false (keep None s)) refl refl refl
     (let one = ap (λ o. length (option_to_list o)) e in omega (arith, one, size-cons (Tok t) s.rest))
 
-plain_put_kept : Plain (change put_kept)
+pub plain_put_kept : Plain (change put_kept)
 plain_put_kept = plain_change put_kept (λ s. put_kept_lower s s.kept refl)
 
 pub plain_behind : (c : CommandWord) → Plain (behind c)

@@ -8,8 +8,8 @@ use Rattle.texml_scope.specs.Groups.{Open, put_below, begin_group, keep_in, end_
 use Rattle.texml_scope.specs.Texts.{Key, Kind, Value, Meaning, key_eq, kind_eq}
 use Rattle.texml_scope.specs.declared.values.MeaningOf.TheVariants.{Macro}
 use Rattle.texml_scope.specs.declared.values.ValueOf.TheVariants.{Means}
-use Rattle.texml_expand.specs.Next.{Taken, Given, Got, AtEnd, Invalid, next}
-use Rattle.texml_expand.specs.Codes.{cats_of, end_of}
+use Rattle.texml_input.specs.Next.{Taken, Given, Got, AtEnd, Invalid, next}
+use Rattle.texml_input.specs.Codes.{cats_of, end_of}
 use Rattle.texml_expand.specs.Absorb.{absorbed, absorb}
 use Rattle.texml_expand.specs.Least.{inside_if, inside, inner_token, next_tokens, least, is_enough, decided, by_least}
 use Rattle.texml_expand.specs.declared.feeding.Verdict.{Verdict}
@@ -18,7 +18,7 @@ use Rattle.texml_expand.proofs.Least.{Takes, take_takes, Decides, by_least_decid
 use Rattle.texml_expand.specs.State.{State, nothing, room, Done, Reading, chain, IsDecided, give, change}
 use Rattle.texml_expand.specs.Expand.{take_given, take, back, put}
 use Rattle.texml_expand.specs.Contract.{Lower}
-use Rattle.texml_expand.specs.Rest.{Tok}
+use Rattle.texml_input.specs.Rest.{Tok}
 use Rattle.texml_expand.proofs.Items.{size-cons, size_put}
 use Rattle.texml_expand.proofs.Leading.{Leads, leads_chain, leads_weaker, lower_none, lower_then, count, take_leads}
 use Rattle.texml_expand.proofs.Deciding.{any, chain_decided, take_decided}

@@ -23,7 +23,7 @@ use Rattle.texml_expand.specs.declared.variables.Index.{Index}
 use Rattle.texml_expand.specs.declared.variables.Index.TheVariants as index
 use Rattle.texml_expand.specs.State.{State, room, nothing, Done, Ended, Reading, chain, give, fail, change, IsDecided}
 use Rattle.texml_expand.specs.Contract.{Lower}
-use Rattle.texml_expand.specs.Rest.{Tok}
+use Rattle.texml_input.specs.Rest.{Tok}
 use Rattle.texml_expand.specs.Absorb.{absorb}
 use Rattle.texml_expand.specs.Variables.{among, key_of, Internal, internal_in, value_of}
 use Rattle.texml_expand.specs.Variables as internals

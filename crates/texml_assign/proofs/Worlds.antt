@@ -43,56 +43,56 @@ pub advances_stops : (h mid new : Held) (scope : Shown) (more : ℕ) (s : Option
 advances_stops h mid new scope more s e f = advances_then h mid new (advances_wrote h mid scope more e) (advances_stopped mid new s f)
 
 -- tokens were put before the rest, or memory was refused
-pub advances_put : (h new : Held) (r : Result (Unit {0}) Stop) (P : Type 0) → MatchResult r (λ _. P) (λ s. (s ≡ stop.NoMemory) × (new ≡ record h { stop = Some stop.NoMemory })) → OnOk r (new ≡ record h { items = new.items }) → Advances h new
+pub advances_put : (h new : Held) (r : Result (Unit {0}) Stop) (P : Type 0) → MatchResult r (λ _. P) (λ s. (s ≡ stop.NoMemory) × (new ≡ record h { stop = Some stop.NoMemory })) → OnOk r (new ≡ record h { input = new.input }) → Advances h new
 advances_put h new (Ok v) P m e = subst (Advances h) (sym e) (record { names = extends_refl h.names; begun = omega arith; limit = refl; writes = omega arith })
 advances_put h new (Err s) P m e = advances_stopped h new (Some stop.NoMemory) m.1
 
 -- names are added
 pub names_state : (h : Held) (names : Table) → Sound h → Extends h.names names → state_of (record h { names = names }) ≡ state_of h
-names_state h names s g = λ i. record (state_of h) {
+names_state h names s g = λ i. record (state_of shelf h) {
   world = world_stays h.names names g (world_of h.scope) s.scope i;
   rest = items_grown h.names names g h.items s.items i;
   kept = kept_same h.names names h.kept g s.kept i;
 }
 
 pub names_kept : (h : Held) (names : Table) → Sound h → Extends h.names names → Numbered names → Kept h (record h { names = names })
-names_kept h names s g numbered = taken_kept h names h.items h.place s g numbered (within_more (length h.names) (length names) g.longer h.items s.items)
+names_kept h names s g numbered = taken_kept h names h.items (place_of h) s g numbered (within_more (length h.names) (length names) g.longer h.items s.items)
 
 pub advances_names : (h new : Held) (names : Table) (s : Option Stop) → Extends h.names names → new ≡ record h { names = names; stop = s } → Advances h new
 advances_names h new names s g e = subst (Advances h) (sym e) (record { names = g; begun = omega arith; limit = refl; writes = omega arith })
 
 -- the world changes, and its names are given
 pub scope_kept : (h new : Held) (scope : Shown) (writes : ℕ) → Sound h → WorldCovered (length h.names) (world_of scope) → new ≡ record h { scope = scope; writes = writes } → Kept h new
-scope_kept h new scope writes sound covered is = subst (Kept h) (sym is) (record { grows = extends_refl h.names; sound = record { numbered = sound.numbered; items = sound.items; kept = sound.kept; scope = covered; budget = sound.budget } })
+scope_kept h new scope writes sound covered is = subst (Kept h) (sym is) (record { grows = extends_refl h.names; sound = record { numbered = sound.numbered; sources = sound.sources; ready = sound.ready; kept = sound.kept; scope = covered; budget = sound.budget } })
 
 -- a group begins
-pub begun_state : (h : Held) (scope : Shown) (kind : KindCode) → world_of scope ≡ begin_group kind (world_of h.scope) → begin_kind (kind_at h.names kind) (state_of h) ≡ Done tt (state_of (record h { scope = scope })) nothing
-begun_state h scope kind e =
-    ap (λ w. Done tt (record (state_of h) { world = w }) nothing) (sym (ap (world_at h.names) e ∙ world_begin h.names kind (world_of h.scope)))
+pub begun_state : (shelf : Shelf) (h : Held) (scope : Shown) (kind : KindCode) → world_of scope ≡ begin_group kind (world_of h.scope) → begin_kind (kind_at h.names kind) (state_of shelf h) ≡ Done tt (state_of shelf (record h { scope = scope })) nothing
+begun_state shelf h scope kind e =
+    ap (λ w. Done tt (record (state_of shelf h) { world = w }) nothing) (sym (ap (world_at h.names) e ∙ world_begin h.names kind (world_of h.scope)))
 
 pub begun_covered : (h : Held) (scope : Shown) (kind : KindCode) → Sound h → KindWithin (length h.names) kind → world_of scope ≡ begin_group kind (world_of h.scope) → WorldCovered (length h.names) (world_of scope)
 begun_covered h scope kind sound given e = subst (WorldCovered (length h.names)) (sym e) (begin_covered (length h.names) kind given (world_of h.scope) sound.scope)
 
 -- a token is kept for after a group
-pub after_state : (h : Held) (scope : Shown) (t : TokenCode) → world_of scope ≡ keep_after t (world_of h.scope) → change (read_after (token_at h.names t)) (state_of h) ≡ Done tt (state_of (record h { scope = scope })) nothing
-after_state h scope t e =
-    ap (λ w. Done tt (record (state_of h) { world = w }) nothing) (sym (ap (world_at h.names) e ∙ world_keep_after h.names t (world_of h.scope)))
+pub after_state : (shelf : Shelf) (h : Held) (scope : Shown) (t : TokenCode) → world_of scope ≡ keep_after t (world_of h.scope) → change (read_after (token_at h.names t)) (state_of shelf h) ≡ Done tt (state_of shelf (record h { scope = scope })) nothing
+after_state shelf h scope t e =
+    ap (λ w. Done tt (record (state_of shelf h) { world = w }) nothing) (sym (ap (world_at h.names) e ∙ world_keep_after h.names t (world_of h.scope)))
 
 pub after_covered : (h : Held) (scope : Shown) (t : TokenCode) → Sound h → TokenWithin (length h.names) t → world_of scope ≡ keep_after t (world_of h.scope) → WorldCovered (length h.names) (world_of scope)
 after_covered h scope t sound given e = subst (WorldCovered (length h.names)) (sym e) (keep_after_covered (length h.names) t given (world_of h.scope) sound.scope)
 
 -- a key is given a value
-set_world : (h : Held) (scope : Shown) (global : Bool) (k : KeyCode) (v : ValueCode) → Sound h → KeyWithin (length h.names) k → world_of scope ≡ set_by global k v (world_of h.scope)
-    → set global (key_at h.names k) (value_at h.names v) (state_of h) ≡ state_of (record h { scope = scope })
-set_world h scope true k v sound within e =
-    ap (λ w. record (state_of h) { world = w }) (sym (ap (world_at h.names) e ∙ world_set_global h.names sound.numbered k within v (world_of h.scope)))
-set_world h scope false k v sound within e =
-    ap (λ w. record (state_of h) { world = w }) (sym (ap (world_at h.names) e ∙ world_set_local h.names sound.numbered k within v (world_of h.scope)))
+set_world : (shelf : Shelf) (h : Held) (scope : Shown) (global : Bool) (k : KeyCode) (v : ValueCode) → Sound h → KeyWithin (length h.names) k → world_of scope ≡ set_by global k v (world_of h.scope)
+    → set global (key_at h.names k) (value_at h.names v) (state_of shelf h) ≡ state_of (record h { scope = scope })
+set_world shelf h scope true k v sound within e =
+    ap (λ w. record (state_of shelf h) { world = w }) (sym (ap (world_at h.names) e ∙ world_set_global h.names sound.numbered k within v (world_of h.scope)))
+set_world shelf h scope false k v sound within e =
+    ap (λ w. record (state_of shelf h) { world = w }) (sym (ap (world_at h.names) e ∙ world_set_local h.names sound.numbered k within v (world_of h.scope)))
 
-pub set_state : (h new : Held) (scope : Shown) (global : Bool) (k : KeyCode) (v : ValueCode) (writes : ℕ) → Sound h → KeyWithin (length h.names) k → world_of scope ≡ set_by global k v (world_of h.scope)
-    → new ≡ record h { scope = scope; writes = writes } → change (set global (key_at h.names k) (value_at h.names v)) (state_of h) ≡ Done tt (state_of new) nothing
-set_state h new scope global k v writes sound within e is =
-    ap (λ s. Done tt s nothing) (set_world h scope global k v sound within e) ∙ ap (λ (n : Held). Done tt (state_of n) nothing) (sym is)
+pub set_state : (shelf : Shelf) (h new : Held) (scope : Shown) (global : Bool) (k : KeyCode) (v : ValueCode) (writes : ℕ) → Sound h → KeyWithin (length h.names) k → world_of scope ≡ set_by global k v (world_of h.scope)
+    → new ≡ record h { scope = scope; writes = writes } → change (set global (key_at h.names k) (value_at h.names v)) (state_of shelf h) ≡ Done tt (state_of shelf new) nothing
+set_state shelf h new scope global k v writes sound within e is =
+    ap (λ s. Done tt s nothing) (set_world shelf h scope global k v sound within e) ∙ ap (λ (n : Held). Done tt (state_of shelf n) nothing) (sym is)
 
 pub set_covered : (h : Held) (scope : Shown) (global : Bool) (k : KeyCode) (v : ValueCode) → Sound h → KeyWithin (length h.names) k → ValueWithin (length h.names) v
     → world_of scope ≡ set_by global k v (world_of h.scope) → WorldCovered (length h.names) (world_of scope)
@@ -100,61 +100,61 @@ set_covered h scope true k v sound within given e = subst (WorldCovered (length 
 set_covered h scope false k v sound within given e = subst (WorldCovered (length h.names)) (sym e) (set_local_covered (length h.names) k v within given (world_of h.scope) sound.scope)
 
 -- a group ends, or doesn't
-module _ (h : Held) (scope : Shown) (kind : KindCode) (answer : Result (List TokenCode) (EndFault KindCode)) (sound : Sound h) (given : KindWithin (length h.names) kind)
+module _ (shelf : Shelf) (h : Held) (scope : Shown) (kind : KindCode) (answer : Result (List TokenCode) (EndFault KindCode)) (sound : Sound h) (given : KindWithin (length h.names) kind)
     (e : (world_of scope, answer) ≡ end_group same_kind kind (world_of h.scope)) where
-  pub ended_is : end_kind (kind_at h.names kind) (state_of h) ≡ ended (world_at h.names (world_of scope), answer_at h.names answer) (state_of h)
-  ended_is = ap (λ x. ended x (state_of h)) (sym (world_end h.names sound.numbered kind given (world_of h.scope) (world_of scope) sound.scope answer e))
+  pub ended_is : end_kind (kind_at h.names kind) (state_of shelf h) ≡ ended (world_at h.names (world_of scope), answer_at h.names answer) (state_of shelf h)
+  ended_is = ap (λ x. ended x (state_of shelf h)) (sym (world_end h.names sound.numbered kind given (world_of h.scope) (world_of scope) sound.scope answer e))
 
 -- its after-tokens are put back
-pub end_puts : (h mid new : Held) (scope : Shown) (kind : KindCode) (after : List TokenCode) (writes : ℕ) (r : Result (Unit {0}) Stop) (P : Type 0) → Sound h → KindWithin (length h.names) kind
+pub end_puts : (shelf : Shelf) (h mid new : Held) (scope : Shown) (kind : KindCode) (after : List TokenCode) (writes : ℕ) (r : Result (Unit {0}) Stop) (P : Type 0) → Sound h → KindWithin (length h.names) kind
     → (world_of scope, Ok after) ≡ end_group same_kind kind (world_of h.scope)
-    → mid ≡ record h { scope = scope; writes = writes } → MatchResult r (λ _. state_of new ≡ put (tokens_at mid.names after) (state_of mid)) (λ s. (s ≡ stop.NoMemory) × P)
-    → Silent (end_kind (kind_at h.names kind) (state_of h)) r (state_of new)
-end_puts h mid new scope kind after writes (Ok v) P sound given e is m =
-    let Q : Held → Type 0 = λ n. state_of new ≡ put (tokens_at n.names after) (state_of n) in
-    ended_is h scope kind (Ok after) sound given e ∙ ap (λ (s : State). Done tt s nothing) (sym (subst Q is m))
-end_puts h mid new scope kind after writes (Err s) P sound given e is m = subst (λ x. Silent (end_kind (kind_at h.names kind) (state_of h)) (Err x) (state_of new)) (sym m.0) tt
+    → mid ≡ record h { scope = scope; writes = writes } → MatchResult r (λ _. state_of shelf new ≡ put (tokens_at mid.names after) (state_of shelf mid)) (λ s. (s ≡ stop.NoMemory) × P)
+    → Silent (end_kind (kind_at h.names kind) (state_of shelf h)) r (state_of shelf new)
+end_puts shelf h mid new scope kind after writes (Ok v) P sound given e is m =
+    let Q : Held → Type 0 = λ n. state_of shelf new ≡ put (tokens_at n.names after) (state_of shelf n) in
+    ended_is shelf h scope kind (Ok after) sound given e ∙ ap (λ (s : State). Done tt s nothing) (sym (subst Q is m))
+end_puts shelf h mid new scope kind after writes (Err s) P sound given e is m = subst (λ x. Silent (end_kind (kind_at h.names kind) (state_of shelf h)) (Err x) (state_of shelf new)) (sym m.0) tt
 
 -- or it can't end
 code_same : (texts : Table) (f : EndFault KindCode) → end_code (fault_at (key_back texts) (value_at texts) (token_at texts) (kind_at texts) f) ≡ end_code f
 code_same texts NoGroup = refl
 code_same texts (WrongGroup kind) = refl
 
-pub end_stops : (h mid new : Held) (scope : Shown) (kind : KindCode) (writes : ℕ) (s : Stop) (f : EndFault KindCode) → Sound h → KindWithin (length h.names) kind → (world_of scope, Err f) ≡ end_group same_kind kind (world_of h.scope)
-    → mid ≡ record h { scope = scope; writes = writes } → IsFaultAt (end_code f) [] mid.place s → Silent (end_kind (kind_at h.names kind) (state_of h)) (Err s) (state_of new)
-end_stops h mid new scope kind writes s f sound given e is fault =
-    silent_fault (end_kind (kind_at h.names kind) (state_of h)) (end_code f) [] h.place s (state_of new)
-    (ended_is h scope kind (Err f) sound given e ∙ ap (λ c. Ended (Tex (fault_here c [] h.place)) nothing) (code_same h.names f))
-    (subst (λ p. IsFaultAt (end_code f) [] p s) (ap (λ (m : Held). m.place) is) fault)
+pub end_stops : (shelf : Shelf) (h mid new : Held) (scope : Shown) (kind : KindCode) (writes : ℕ) (s : Stop) (f : EndFault KindCode) → Sound h → KindWithin (length h.names) kind → (world_of scope, Err f) ≡ end_group same_kind kind (world_of h.scope)
+    → mid ≡ record h { scope = scope; writes = writes } → IsFaultAt (end_code f) [] (place_of mid) s → Silent (end_kind (kind_at h.names kind) (state_of shelf h)) (Err s) (state_of shelf new)
+end_stops shelf h mid new scope kind writes s f sound given e is fault =
+    silent_fault (end_kind (kind_at h.names kind) (state_of shelf h)) (end_code f) [] (place_of h) s (state_of shelf new)
+    (ended_is shelf h scope kind (Err f) sound given e ∙ ap (λ c. Ended (Tex (fault_here c [] (place_of h))) nothing) (code_same h.names f))
+    (subst (λ p. IsFaultAt (end_code f) [] p s) (ap place_of is) fault)
 
 -- a token comes next
-pub back_state : (h new : Held) (t : TokenCode) (r : Result (Unit {0}) Stop) (P : Type 0) → MatchResult r (λ _. state_of new ≡ back (token_at h.names t) false (state_of h)) (λ s. (s ≡ stop.NoMemory) × P)
-    → Silent (change (back (token_at h.names t) false) (state_of h)) r (state_of new)
-back_state h new t (Ok v) P m = ap (λ s. Done tt s nothing) (sym m)
-back_state h new t (Err s) P m = subst (λ x. Silent (change (back (token_at h.names t) false) (state_of h)) (Err x) (state_of new)) (sym m.0) tt
+pub back_state : (shelf : Shelf) (h new : Held) (t : TokenCode) (r : Result (Unit {0}) Stop) (P : Type 0) → MatchResult r (λ _. state_of shelf new ≡ back (token_at h.names t) false (state_of shelf h)) (λ s. (s ≡ stop.NoMemory) × P)
+    → Silent (change (back (token_at h.names t) false) (state_of shelf h)) r (state_of shelf new)
+back_state shelf h new t (Ok v) P m = ap (λ s. Done tt s nothing) (sym m)
+back_state shelf h new t (Err s) P m = subst (λ x. Silent (change (back (token_at h.names t) false) (state_of shelf h)) (Err x) (state_of shelf new)) (sym m.0) tt
 
 -- the kept token comes next
-pub kept_none : (h : Held) → h.kept ≡ None → change put_kept (state_of h) ≡ Done tt (state_of h) nothing
-kept_none h e = ap (λ o. Done tt (put_kept_of (option_map (token_at h.names) o) (state_of h)) nothing) e
+pub kept_none : (shelf : Shelf) (h : Held) → h.kept ≡ None → change put_kept (state_of shelf h) ≡ Done tt (state_of shelf h) nothing
+kept_none shelf h e = ap (λ o. Done tt (put_kept_of (option_map (token_at h.names) o) (state_of shelf h)) nothing) e
 
-kept_one : (h mid : Held) (t : TokenCode) → h.kept ≡ Some t → mid ≡ record h { kept = None } → put_kept (state_of h) ≡ back (token_at mid.names t) false (state_of mid)
-kept_one h mid t e is =
-    ap (λ o. put_kept_of (option_map (token_at h.names) o) (state_of h)) e ∙ sym (ap (λ (m : Held). back (token_at m.names t) false (state_of m)) is)
+kept_one : (shelf : Shelf) (h mid : Held) (t : TokenCode) → h.kept ≡ Some t → mid ≡ record h { kept = None } → put_kept (state_of shelf h) ≡ back (token_at mid.names t) false (state_of shelf mid)
+kept_one shelf h mid t e is =
+    ap (λ o. put_kept_of (option_map (token_at h.names) o) (state_of shelf h)) e ∙ sym (ap (λ (m : Held). back (token_at m.names t) false (state_of shelf m)) is)
 
-pub kept_some : (h mid new : Held) (t : TokenCode) (r : Result (Unit {0}) Stop) (P : Type 0) → h.kept ≡ Some t → mid ≡ record h { kept = None } → MatchResult r (λ _. state_of new ≡ back (token_at mid.names t) false (state_of mid)) (λ s. (s ≡ stop.NoMemory) × P)
-    → Silent (change put_kept (state_of h)) r (state_of new)
-kept_some h mid new t (Ok v) P e is m = ap (λ s. Done tt s nothing) (kept_one h mid t e is ∙ sym m)
-kept_some h mid new t (Err s) P e is m = subst (λ x. Silent (change put_kept (state_of h)) (Err x) (state_of new)) (sym m.0) tt
+pub kept_some : (shelf : Shelf) (h mid new : Held) (t : TokenCode) (r : Result (Unit {0}) Stop) (P : Type 0) → h.kept ≡ Some t → mid ≡ record h { kept = None } → MatchResult r (λ _. state_of shelf new ≡ back (token_at mid.names t) false (state_of shelf mid)) (λ s. (s ≡ stop.NoMemory) × P)
+    → Silent (change put_kept (state_of shelf h)) r (state_of shelf new)
+kept_some shelf h mid new t (Ok v) P e is m = ap (λ s. Done tt s nothing) (kept_one shelf h mid t e is ∙ sym m)
+kept_some shelf h mid new t (Err s) P e is m = subst (λ x. Silent (change put_kept (state_of shelf h)) (Err x) (state_of shelf new)) (sym m.0) tt
 
 pub kept_gone : (h mid : Held) → Sound h → mid ≡ record h { kept = None } → Sound mid
-kept_gone h mid sound is = subst Sound (sym is) (record { numbered = sound.numbered; items = sound.items; kept = tt; scope = sound.scope; budget = sound.budget })
+kept_gone h mid sound is = subst Sound (sym is) (record { numbered = sound.numbered; sources = sound.sources; ready = sound.ready; kept = tt; scope = sound.scope; budget = sound.budget })
 
 pub gone_kept : (h mid : Held) → Sound h → mid ≡ record h { kept = None } → Kept h mid
 gone_kept h mid sound is = record { grows = subst (λ (m : Held). Extends h.names m.names) (sym is) (extends_refl h.names); sound = kept_gone h mid sound is }
 
 -- a token is kept
 pub kept_set : (h mid : Held) (t : TokenCode) → Sound h → TokenWithin (length h.names) t → mid ≡ record h { kept = Some t } → Kept h mid
-kept_set h mid t sound given is = subst (Kept h) (sym is) (record { grows = extends_refl h.names; sound = record { numbered = sound.numbered; items = sound.items; kept = given; scope = sound.scope; budget = sound.budget } })
+kept_set h mid t sound given is = subst (Kept h) (sym is) (record { grows = extends_refl h.names; sound = record { numbered = sound.numbered; sources = sound.sources; ready = sound.ready; kept = given; scope = sound.scope; budget = sound.budget } })
 
 pub advances_set : (h mid : Held) (t : Option TokenCode) → mid ≡ record h { kept = t } → Advances h mid
 advances_set h mid t is = subst (Advances h) (sym is) (record { names = extends_refl h.names; begun = omega arith; limit = refl; writes = omega arith })

@@ -3,9 +3,9 @@
 ghost use Rattle.std.specs.Prelude.{◌≡◌, length, None, IfOk, OnOk};
 ghost use Rattle.texml_token.specs.Numbers.{Table, token_at, tokens_at, TokensWithin, BodyWithin};
 ghost use Rattle.texml_scope.specs.Numbers.{meaning_at, MeaningWithin};
-ghost use Rattle.texml_expand.specs.Contract.{Silent, outside, stop_after};
+ghost use Rattle.texml_expand.specs.Contract.{Local, outside, stop_after};
 ghost use Rattle.texml_expand.specs.Hearing.{hears, hears_part};
-ghost use Rattle.texml_expand.specs.Held.{state_of, Sound, Kept, ok_at};
+ghost use Rattle.texml_expand.specs.Held.{Sound, Kept, ok_at, Owns};
 ghost use Rattle.texml_assign.specs.Doing.{Does};
 ghost use Rattle.texml_assign.specs.Operands.{meant as spec_meant};
 ghost use Rattle.texml_assign.specs.Parameters.{head_at};
@@ -38,9 +38,9 @@ pub fn define<F: Files, T: Teller>(
 ) -> Result<(), Stop>
     requires running { engine.old.stop ≡ None }
     requires sound { Sound engine.old }
+    requires owns { Owns (F.shelf files.old) engine.old }
     ensures does { Does (hears T.wanting T.heard) (hears_part T.wanting T.part) (assigned global (spec_defined expanding long)) result engine.old engine.new
-        (outside (F.faults files.old) (T.faults tell.old)) (outside (F.faults files.new) (T.faults tell.new)) tell.old tell.new }
-    ensures files { files.new ≡ files.old }
+        (outside (F.shelf files.old) (F.faults files.old) (T.faults tell.old) (T.loan tell.old)) (outside (F.shelf files.new) (F.faults files.new) (T.faults tell.new) (T.loan tell.new)) tell.old tell.new }
 {
     let key = next_key(engine, files, tell)?;
     let meaning = defined(alloc, engine, files, tell, expanding, long)?;
@@ -60,9 +60,9 @@ pub fn let_to<F: Files, T: Teller>(
 ) -> Result<(), Stop>
     requires running { engine.old.stop ≡ None }
     requires sound { Sound engine.old }
+    requires owns { Owns (F.shelf files.old) engine.old }
     ensures does { Does (hears T.wanting T.heard) (hears_part T.wanting T.part) (assigned global spec_meant) result engine.old engine.new
-        (outside (F.faults files.old) (T.faults tell.old)) (outside (F.faults files.new) (T.faults tell.new)) tell.old tell.new }
-    ensures files { files.new ≡ files.old }
+        (outside (F.shelf files.old) (F.faults files.old) (T.faults tell.old) (T.loan tell.old)) (outside (F.shelf files.new) (F.faults files.new) (T.faults tell.new) (T.loan tell.new)) tell.old tell.new }
 {
     let key = next_key(engine, files, tell)?;
     let meaning = meant(engine, files, tell)?;
@@ -80,10 +80,10 @@ fn defined<F: Files, T: Teller>(
 ) -> Result<Meaning, Stop>
     requires running { engine.old.stop ≡ None }
     requires sound { Sound engine.old }
+    requires owns { Owns (F.shelf files.old) engine.old }
     ensures does { Does (hears T.wanting T.heard) (hears_part T.wanting T.part) (spec_defined expanding long) (ok_at (meaning_at engine.new.names) result) engine.old engine.new
-        (outside (F.faults files.old) (T.faults tell.old)) (outside (F.faults files.new) (T.faults tell.new)) tell.old tell.new }
+        (outside (F.shelf files.old) (F.faults files.old) (T.faults tell.old) (T.loan tell.old)) (outside (F.shelf files.new) (F.faults files.new) (T.faults tell.new) (T.loan tell.new)) tell.old tell.new }
     ensures within { IfOk result (MeaningWithin (length engine.new.names)) }
-    ensures files { files.new ≡ files.old }
 {
     let head = parameter_text(alloc, engine, files, tell)?;
     let body = next_body(alloc, engine, files, tell, expanding, head.slots)?;
@@ -102,10 +102,10 @@ fn parameter_text<F: Files, T: Teller>(
 ) -> Result<Head, Stop>
     requires running { engine.old.stop ≡ None }
     requires sound { Sound engine.old }
+    requires owns { Owns (F.shelf files.old) engine.old }
     ensures does { Does (hears T.wanting T.heard) (hears_part T.wanting T.part) (λ n. spec_parameter_text) (ok_at (head_at engine.new.names) result) engine.old engine.new
-        (outside (F.faults files.old) (T.faults tell.old)) (outside (F.faults files.new) (T.faults tell.new)) tell.old tell.new }
+        (outside (F.shelf files.old) (F.faults files.old) (T.faults tell.old) (T.loan tell.old)) (outside (F.shelf files.new) (F.faults files.new) (T.faults tell.new) (T.loan tell.new)) tell.old tell.new }
     ensures within { IfOk result (HeadWithin (length engine.new.names) 0) }
-    ensures files { files.new ≡ files.old }
 {
     look_ahead(engine, files, tell)?;
     let mut text = ParameterText::new(alloc);
@@ -123,10 +123,10 @@ fn next_body<F: Files, T: Teller>(
 ) -> Result<Tokens, Stop>
     requires running { engine.old.stop ≡ None }
     requires sound { Sound engine.old }
+    requires owns { Owns (F.shelf files.old) engine.old }
     ensures does { Does (hears T.wanting T.heard) (hears_part T.wanting T.part) (spec_next_body expanding slots) (ok_at (tokens_at engine.new.names) result) engine.old engine.new
-        (outside (F.faults files.old) (T.faults tell.old)) (outside (F.faults files.new) (T.faults tell.new)) tell.old tell.new }
+        (outside (F.shelf files.old) (F.faults files.old) (T.faults tell.old) (T.loan tell.old)) (outside (F.shelf files.new) (F.faults files.new) (T.faults tell.new) (T.loan tell.new)) tell.old tell.new }
     ensures within { IfOk result (BodyWithin (length engine.new.names) slots) }
-    ensures files { files.new ≡ files.old }
 {
     let list = engine.absorb(files, tell, expanding)?;
     body_said(alloc, engine, slots, &list)
@@ -147,7 +147,7 @@ pub fn body_said(
     requires running { engine.old.stop ≡ None }
     requires sound { Sound engine.old }
     requires list { TokensWithin (length engine.old.names) list.now }
-    ensures needs { Silent (spec_body_said slots (tokens_at engine.old.names list.now) (state_of engine.old)) (ok_at (tokens_at engine.new.names) result) (state_of engine.new) }
+    ensures needs { Local (spec_body_said slots (tokens_at engine.old.names list.now)) (ok_at (tokens_at engine.new.names) result) engine.old engine.new }
     ensures kept { engine.new.stop ≡ stop_after result }
     ensures keeps { OnOk result (Kept engine.old engine.new) }
     ensures is { engine.new ≡ record engine.old { stop = engine.new.stop } }

@@ -8,10 +8,10 @@ ghost use Rattle.texml_scope.specs.Values.{number_in};
 ghost use Rattle.texml_scope.specs.World.{IsNumber, IsCode, IsOfKind};
 ghost use Rattle.texml_scope.specs.Shown.{ValueCode};
 ghost use Rattle.texml_expand.specs.State.{change};
-ghost use Rattle.texml_expand.specs.Contract.{Silent, outside, stop_after};
+ghost use Rattle.texml_expand.specs.Contract.{Local, outside, stop_after};
 ghost use Rattle.texml_expand.specs.Fronts.{looked_at, LookedWithin};
 ghost use Rattle.texml_expand.specs.Hearing.{hears, hears_part};
-ghost use Rattle.texml_expand.specs.Held.{state_of, Sound, Kept, ok_at};
+ghost use Rattle.texml_expand.specs.Held.{Sound, Kept, ok_at, world_in, Owns, SameFiles, Shrinks, Puts};
 ghost use Rattle.texml_assign.specs.Advance.{Advances};
 ghost use Rattle.texml_assign.specs.Doing.{Does};
 ghost use Rattle.texml_assign.specs.Letters.{group_from as spec_group_from, group_by as spec_group_by, next_group as spec_next_group, case_key as spec_case_key, code_or as spec_code_or, code_in as spec_code_in, token_in as spec_token_in, put_in_case as spec_put_in_case, change_case as spec_change_case};
@@ -48,9 +48,9 @@ pub fn change_case<F: Files, T: Teller>(
 ) -> Result<(), Stop>
     requires running { engine.old.stop ≡ None }
     requires sound { Sound engine.old }
+    requires owns { Owns (F.shelf files.old) engine.old }
     ensures does { Does (hears T.wanting T.heard) (hears_part T.wanting T.part) (spec_change_case case) result engine.old engine.new
-        (outside (F.faults files.old) (T.faults tell.old)) (outside (F.faults files.new) (T.faults tell.new)) tell.old tell.new }
-    ensures files { files.new ≡ files.old }
+        (outside (F.shelf files.old) (F.faults files.old) (T.faults tell.old) (T.loan tell.old)) (outside (F.shelf files.new) (F.faults files.new) (T.faults tell.new) (T.loan tell.new)) tell.old tell.new }
 {
     let list = next_group(engine, files, tell)?;
     put_in_case(alloc, engine, case, &list)
@@ -64,10 +64,11 @@ fn next_group<F: Files, T: Teller>(
 ) -> Result<Tokens, Stop>
     requires running { engine.old.stop ≡ None }
     requires sound { Sound engine.old }
+    requires owns { Owns (F.shelf files.old) engine.old }
     ensures does { Does (hears T.wanting T.heard) (hears_part T.wanting T.part) spec_next_group (ok_at (tokens_at engine.new.names) result) engine.old engine.new
-        (outside (F.faults files.old) (T.faults tell.old)) (outside (F.faults files.new) (T.faults tell.new)) tell.old tell.new }
+        (outside (F.shelf files.old) (F.faults files.old) (T.faults tell.old) (T.loan tell.old)) (outside (F.shelf files.new) (F.faults files.new) (T.faults tell.new) (T.loan tell.new)) tell.old tell.new }
+    ensures takes { IfOk result (λ list. Shrinks (length list) (F.shelf files.old) engine.old (F.shelf files.new) engine.new) }
     ensures within { IfOk result (TokensWithin (length engine.new.names)) }
-    ensures files { files.new ≡ files.old }
 {
     let first = first_behind(engine, files, tell, Filler::SpacesAndRelax)?;
     group_by(engine, files, tell, first)
@@ -82,11 +83,12 @@ fn group_by<F: Files, T: Teller>(
 ) -> Result<Tokens, Stop>
     requires running { engine.old.stop ≡ None }
     requires sound { Sound engine.old }
+    requires owns { Owns (F.shelf files.old) engine.old }
     requires first { OptionWithin (LookedWithin (length engine.old.names)) first }
     ensures does { Does (hears T.wanting T.heard) (hears_part T.wanting T.part) (spec_group_by (option_map (looked_at engine.old.names) first)) (ok_at (tokens_at engine.new.names) result) engine.old engine.new
-        (outside (F.faults files.old) (T.faults tell.old)) (outside (F.faults files.new) (T.faults tell.new)) tell.old tell.new }
+        (outside (F.shelf files.old) (F.faults files.old) (T.faults tell.old) (T.loan tell.old)) (outside (F.shelf files.new) (F.faults files.new) (T.faults tell.new) (T.loan tell.new)) tell.old tell.new }
+    ensures takes { IfOk result (λ list. Shrinks (length list) (F.shelf files.old) engine.old (F.shelf files.new) engine.new) }
     ensures within { IfOk result (TokensWithin (length engine.new.names)) }
-    ensures files { files.new ≡ files.old }
 {
     let start = list_start(engine, first)?;
     group_from(engine, files, tell, start)
@@ -101,10 +103,11 @@ fn group_from<F: Files, T: Teller>(
 ) -> Result<Tokens, Stop>
     requires running { engine.old.stop ≡ None }
     requires sound { Sound engine.old }
+    requires owns { Owns (F.shelf files.old) engine.old }
     ensures does { Does (hears T.wanting T.heard) (hears_part T.wanting T.part) (spec_group_from start) (ok_at (tokens_at engine.new.names) result) engine.old engine.new
-        (outside (F.faults files.old) (T.faults tell.old)) (outside (F.faults files.new) (T.faults tell.new)) tell.old tell.new }
+        (outside (F.shelf files.old) (F.faults files.old) (T.faults tell.old) (T.loan tell.old)) (outside (F.shelf files.new) (F.faults files.new) (T.faults tell.new) (T.loan tell.new)) tell.old tell.new }
+    ensures takes { IfOk result (λ list. Shrinks (length list) (F.shelf files.old) engine.old (F.shelf files.new) engine.new) }
     ensures within { IfOk result (TokensWithin (length engine.new.names)) }
-    ensures files { files.new ≡ files.old }
 {
     match start {
         ListStart::Group => engine.absorb(files, tell, false),
@@ -117,10 +120,12 @@ fn put_in_case(alloc: Global, engine: &mut Engine, case: Case, list: &Tokens) ->
     requires running { engine.old.stop ≡ None }
     requires sound { Sound engine.old }
     requires list { TokensWithin (length engine.old.names) list.now }
-    ensures puts { Silent (change (spec_put_in_case case (tokens_at engine.old.names list.now)) (state_of engine.old)) result (state_of engine.new) }
+    ensures changes { Local (change (spec_put_in_case case (tokens_at engine.old.names list.now))) result engine.old engine.new }
     ensures kept { engine.new.stop ≡ stop_after result }
     ensures keeps { OnOk result (Kept engine.old engine.new) }
     ensures advances { Advances engine.old engine.new }
+    ensures files { SameFiles engine.old engine.new }
+    ensures puts { OnOk result (Puts (length list.now) engine.old engine.new) }
 {
     match tokens_in(alloc, engine, case, list) {
         Ok(changed) => engine.put(&changed),
@@ -137,7 +142,7 @@ fn tokens_in(
 ) -> Result<Tokens, AllocError>
     requires sound { Sound engine.now }
     requires list { TokensWithin (length engine.now.names) list.now }
-    ensures are { IfOk result (λ changed. tokens_at engine.now.names changed ≡ map (spec_token_in case (state_of engine.now).world) (tokens_at engine.now.names list.now)) }
+    ensures are { IfOk result (λ changed. tokens_at engine.now.names changed ≡ map (spec_token_in case (world_in engine.now)) (tokens_at engine.now.names list.now)) }
     ensures within { IfOk result (TokensWithin (length engine.now.names)) }
 {
     let mut changed = Tokens::new(alloc);
@@ -151,7 +156,7 @@ fn tokens_in(
 fn token_in(engine: &Engine, case: Case, token: Token) -> Result<Token, AllocError>
     requires sound { Sound engine.now }
     requires token { TokenWithin (length engine.now.names) token }
-    ensures is { IfOk result (λ changed. token_at engine.now.names changed ≡ spec_token_in case (state_of engine.now).world (token_at engine.now.names token)) }
+    ensures is { IfOk result (λ changed. token_at engine.now.names changed ≡ spec_token_in case (world_in engine.now) (token_at engine.now.names token)) }
     ensures within { IfOk result (TokenWithin (length engine.now.names)) }
 {
     match token {
@@ -165,7 +170,7 @@ fn token_in(engine: &Engine, case: Case, token: Token) -> Result<Token, AllocErr
 fn code_in(engine: &Engine, case: Case, code: u32) -> Result<u32, AllocError>
     requires sound { Sound engine.now }
     requires code { IsScalar code }
-    ensures is { IfOk result (λ changed. changed ≡ spec_code_in case (state_of engine.now).world code) }
+    ensures is { IfOk result (λ changed. changed ≡ spec_code_in case (world_in engine.now) code) }
     ensures scalar { IfOk result IsScalar }
 {
     let value = engine.value(&case_key(case, code))?;

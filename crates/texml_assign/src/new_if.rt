@@ -3,13 +3,14 @@
 ghost use Rattle.std.specs.Prelude.{◌≡◌, ◌++◌, length, map, None, IfOk, IfErr, IfSome, OnOk};
 ghost use Rattle.std.specs.List.{All};
 ghost use Rattle.std.specs.Char.{IsScalar};
+ghost use Rattle.texml_base.specs.Outside.{Shelf};
 ghost use Rattle.texml_token.specs.Numbers.{token_at, Extends, Numbered, TokenWithin};
 ghost use Rattle.texml_token.specs.declared.tokens.Token.{Token as TokenCode};
 ghost use Rattle.texml_scope.specs.Numbers.{name_text, IsGiven};
 ghost use Rattle.texml_expand.specs.State.{change};
-ghost use Rattle.texml_expand.specs.Contract.{Silent, outside, stop_after};
+ghost use Rattle.texml_expand.specs.Contract.{Local, outside, stop_after};
 ghost use Rattle.texml_expand.specs.Hearing.{hears, hears_part};
-ghost use Rattle.texml_expand.specs.Held.{state_of, Sound, Kept};
+ghost use Rattle.texml_expand.specs.Held.{state_of, Sound, Kept, Owns, SameFiles, Puts};
 ghost use Rattle.texml_assign.specs.Advance.{Advances};
 ghost use Rattle.texml_assign.specs.Doing.{Does};
 ghost use Rattle.texml_assign.specs.ConditionalNames.{IsName, AreNames};
@@ -62,9 +63,9 @@ pub fn new_if<F: Files, T: Teller>(
 ) -> Result<(), Stop>
     requires running { engine.old.stop ≡ None }
     requires sound { Sound engine.old }
+    requires owns { Owns (F.shelf files.old) engine.old }
     ensures does { Does (hears T.wanting T.heard) (hears_part T.wanting T.part) (λ n. spec_new_if) result engine.old engine.new
-        (outside (F.faults files.old) (T.faults tell.old)) (outside (F.faults files.new) (T.faults tell.new)) tell.old tell.new }
-    ensures files { files.new ≡ files.old }
+        (outside (F.shelf files.old) (F.faults files.old) (T.faults tell.old) (T.loan tell.old)) (outside (F.shelf files.new) (F.faults files.new) (T.faults tell.new) (T.loan tell.new)) tell.old tell.new }
 {
     let token = next_token(engine, files, tell)?;
     new_if_of(alloc, engine, token)
@@ -75,10 +76,12 @@ fn new_if_of(alloc: Global, engine: &mut Engine, token: Token) -> Result<(), Sto
     requires running { engine.old.stop ≡ None }
     requires sound { Sound engine.old }
     requires token { TokenWithin (length engine.old.names) token }
-    ensures makes { Silent (spec_new_if_of (token_at engine.old.names token) (state_of engine.old)) result (state_of engine.new) }
+    ensures makes { Local (spec_new_if_of (token_at engine.old.names token)) result engine.old engine.new }
     ensures kept { engine.new.stop ≡ stop_after result }
     ensures keeps { OnOk result (Kept engine.old engine.new) }
     ensures advances { Advances engine.old engine.new }
+    ensures files { SameFiles engine.old engine.new }
+    ensures puts { OnOk result (Puts 0 engine.old engine.new) }
 {
     let part = needed_part(alloc, engine, token)?;
     conditional(alloc, engine, &part)
@@ -89,7 +92,7 @@ fn needed_part(alloc: Global, engine: &mut Engine, token: Token) -> Result<Line,
     requires running { engine.old.stop ≡ None }
     requires sound { Sound engine.old }
     requires token { TokenWithin (length engine.old.names) token }
-    ensures needs { Silent (spec_needed_part (spec_part_in (token_at engine.old.names token)) (state_of engine.old)) result (state_of engine.new) }
+    ensures needs { Local (spec_needed_part (spec_part_in (token_at engine.old.names token))) result engine.old engine.new }
     ensures kept { engine.new.stop ≡ stop_after result }
     ensures keeps { OnOk result (Kept engine.old engine.new) }
     ensures is { engine.new ≡ record engine.old { stop = engine.new.stop } }
@@ -134,10 +137,12 @@ fn conditional(alloc: Global, engine: &mut Engine, part: &Line) -> Result<(), St
     requires running { engine.old.stop ≡ None }
     requires sound { Sound engine.old }
     requires part { All IsScalar part.now }
-    ensures makes { Silent (spec_conditional part.now (state_of engine.old)) result (state_of engine.new) }
+    ensures makes { Local (spec_conditional part.now) result engine.old engine.new }
     ensures kept { engine.new.stop ≡ stop_after result }
     ensures keeps { OnOk result (Kept engine.old engine.new) }
     ensures advances { Advances engine.old engine.new }
+    ensures files { SameFiles engine.old engine.new }
+    ensures puts { OnOk result (Puts 0 engine.old engine.new) }
 {
     let names = give_names(alloc, engine, part)?;
     let set_true = [names.lets, names.test, names.if_true];
@@ -153,11 +158,13 @@ fn give_names(alloc: Global, engine: &mut Engine, part: &Line) -> Result<Conditi
     requires sound { Sound engine.old }
     requires part { All IsScalar part.now }
     ensures are { IfOk result (AreNames engine.new.names part.now) }
-    ensures same { OnOk result (state_of engine.new ≡ state_of engine.old) }
+    ensures same { OnOk result ((shelf : Shelf) → state_of shelf engine.new ≡ state_of shelf engine.old) }
     ensures memory { IfErr result (λ stop. stop ≡ Stop.NoMemory) }
     ensures kept { engine.new.stop ≡ stop_after result }
     ensures keeps { OnOk result (Kept engine.old engine.new) }
     ensures advances { Advances engine.old engine.new }
+    ensures files { SameFiles engine.old engine.new }
+    ensures puts { OnOk result (Puts 0 engine.old engine.new) }
 {
     match conditional_names(alloc, engine.names(), part.as_slice()) {
         Ok(names) => Ok(names),
@@ -219,10 +226,12 @@ fn let_name(engine: &mut Engine, name: Name, other: Name) -> Result<(), Stop>
     requires sound { Sound engine.old }
     requires name { IsGiven (length engine.old.names) name }
     requires other { IsGiven (length engine.old.names) other }
-    ensures lets { Silent (change (spec_let_name (name_text engine.old.names name) (name_text engine.old.names other)) (state_of engine.old)) result (state_of engine.new) }
+    ensures lets { Local (change (spec_let_name (name_text engine.old.names name) (name_text engine.old.names other))) result engine.old engine.new }
     ensures kept { engine.new.stop ≡ stop_after result }
     ensures keeps { OnOk result (Kept engine.old engine.new) }
     ensures advances { Advances engine.old engine.new }
+    ensures files { SameFiles engine.old engine.new }
+    ensures puts { OnOk result (Puts 0 engine.old engine.new) }
 {
     let meaning = match engine.means(Token::Named(other)) {
         Ok(meaning) => meaning,
@@ -242,10 +251,12 @@ fn define_name(
     requires sound { Sound engine.old }
     requires name { IsGiven (length engine.old.names) name }
     requires body { All (IsGiven (length engine.old.names)) body.now }
-    ensures defines { Silent (change (spec_define_name (name_text engine.old.names name) (map (name_text engine.old.names) body.now)) (state_of engine.old)) result (state_of engine.new) }
+    ensures defines { Local (change (spec_define_name (name_text engine.old.names name) (map (name_text engine.old.names) body.now))) result engine.old engine.new }
     ensures kept { engine.new.stop ≡ stop_after result }
     ensures keeps { OnOk result (Kept engine.old engine.new) }
     ensures advances { Advances engine.old engine.new }
+    ensures files { SameFiles engine.old engine.new }
+    ensures puts { OnOk result (Puts 0 engine.old engine.new) }
 {
     let body = match tokens_of(alloc, body) {
         Ok(body) => body,

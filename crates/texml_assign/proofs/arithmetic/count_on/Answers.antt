@@ -12,7 +12,7 @@ use Rattle.texml_expand.specs.Absorb.{absorb}
 use Rattle.texml_expand.specs.Expand.{fetch, read_int, read_dimen, read_glue, read_keyword, read_index}
 use Rattle.texml_assign.proofs.Readings.{lawful_plain, plain_give}
 use Rattle.texml_assign.proofs.Parts.{plain_absorb, plain_set, plain_assign, plain_next_key}
-use Rattle.texml_assign.proofs.Doing.{does_call, does_then, does_stop, does_now, does_silent, does_fault, does_out, kept_of, keeps_of, advances_progress, advances_stopped}
+use Rattle.texml_assign.proofs.Doing.{does_then, does_stop, does_local}
 use Rattle.texml_assign.specs.Sets.{set, assign}
 use Rattle.texml_assign.specs.Arithmetic.{computed, value_from}
 use Rattle.texml_assign.proofs.Quantities.{lawful_computed, lawful_set, same_key, counted_variable, key_given, count_value}
@@ -27,4 +27,4 @@ pub returns-clause-does : goal.returns-clause-does
 returns-clause-does g c =
     let old = c.args.engine.now in let mid = c.computed.new.engine in let new = c.set.new.engine in
     does_then _ _ (computed c.args.what c.args.old) (λ k n. change (set c.args.global (key_at old.names c.args.key) (value_from k))) (lawful_computed c.args.what c.args.old) (λ k. lawful_set c.args.global (key_at old.names c.args.key) (value_from k)) c.in_ok-new.new c.set.result _ mid new _ _ _ _ _ _ c.in_ok-new.ensures.does
-    (does_silent _ _ (change (set c.args.global (key_at old.names c.args.key) (value_from c.in_ok-new.new))) (plain_set c.args.global (key_at old.names c.args.key) (value_from c.in_ok-new.new)) c.set.result mid new _ _ _ _ _ _ refl refl refl (rw ((same_key c.args.key (counted_variable c.args.key c.requires.key) old.names mid.names), ← count_value mid.names c.in_ok-new.new, ← c.value_from.ensures) c.set.ensures.sets) c.set.ensures.kept c.set.ensures.keeps c.set.ensures.advances)
+    (does_local _ _ (change (set c.args.global (key_at old.names c.args.key) (value_from c.in_ok-new.new))) (plain_set c.args.global (key_at old.names c.args.key) (value_from c.in_ok-new.new)) c.set.result mid new _ _ c.in_ok-new.ensures.does.holds.owns (rw ((same_key c.args.key (counted_variable c.args.key c.requires.key) old.names mid.names), ← count_value mid.names c.in_ok-new.new, ← c.value_from.ensures) c.set.ensures.sets) c.set.ensures.kept c.set.ensures.keeps c.set.ensures.advances c.set.ensures.files c.set.ensures.puts)

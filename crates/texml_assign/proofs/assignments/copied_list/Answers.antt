@@ -12,7 +12,7 @@ use Rattle.texml_expand.specs.Absorb.{absorb}
 use Rattle.texml_expand.specs.Expand.{fetch, read_int, read_dimen, read_glue, read_keyword, read_index}
 use Rattle.texml_assign.proofs.Readings.{lawful_plain, plain_give}
 use Rattle.texml_assign.proofs.Parts.{plain_absorb, plain_set, plain_assign, plain_next_key}
-use Rattle.texml_assign.proofs.Doing.{does_call, does_then, does_stop, does_now, does_silent, does_fault, does_out, kept_of, keeps_of, advances_progress, advances_stopped}
+use Rattle.texml_assign.proofs.Doing.{does_then, does_stop, does_now, does_out}
 use Rattle.texml_assign.specs.Sets.{set, assign}
 use Rattle.texml_assign.specs.Assignments.{value_now}
 use Rattle.texml_assign.specs.Targets.{target_key}
@@ -27,10 +27,10 @@ pub returns-in-Ok-clause-does : goal.returns-in-Ok-clause-does
 returns-in-Ok-clause-does g c =
     let mid = c.target_key.new.engine in let s = c.in_ok-key.ensures.does in let k = key_at mid.names c.in_ok-key.key in let v = value_at mid.names c.in-Ok.value in
     does_then _ _ (target_key c.args.target) (λ k n. value_now k) (lawful_target c.args.target) (λ k. lawful_plain (value_now k) (plain_value_now k)) k _ _ mid mid _ _ _ _ _ _ s
-    (does_now _ _ (value_now k) (plain_value_now k) v mid _ _ s.keeps.sound s.stops.kept (ap (λ v. Done v (state_of mid) nothing) (sym c.in-Ok.ensures.is)))
+    (does_now _ _ (value_now k) (plain_value_now k) v mid _ _ s.keeps.sound s.holds.owns s.stops.kept (λ shelf. ap (λ v. Done v (state_of shelf mid) nothing) (sym c.in-Ok.ensures.is)))
 
 pub returns-in-Err-clause-does : goal.returns-in-Err-clause-does
 returns-in-Err-clause-does g c =
     let mid = c.target_key.new.engine in let s = c.in_ok-key.ensures.does in let k = key_at mid.names c.in_ok-key.key in let new = c.no_memory.new.self in
     does_then _ _ (target_key c.args.target) (λ k n. value_now k) (lawful_target c.args.target) (λ k. lawful_plain (value_now k) (plain_value_now k)) k _ _ mid new _ _ _ _ _ _ s
-    (does_out _ _ (λ n. value_now k) (lawful_plain (value_now k) (plain_value_now k)) c.no_memory.result mid new _ _ s.keeps.sound c.no_memory.ensures.is c.no_memory.ensures.kept)
+    (does_out _ _ (λ n. value_now k) (lawful_plain (value_now k) (plain_value_now k)) c.no_memory.result mid new _ _ s.keeps.sound s.holds.owns c.no_memory.ensures.is c.no_memory.ensures.kept)

@@ -32,8 +32,7 @@ returns-in-Ok-clause-does g c =
     let v = meaning_at e2.names (Macro c.in-Ok.made) in
     does_then _ _ (λ n. parameter_text) (head_taken ex long) (lawful_plain parameter_text plain_parameter_text) (lawful_head_taken ex long) h _ _ _ _ _ _ _ _ _ _ f
     (does_then _ _ (next_body ex h.slots) (λ body n. body_taken long h body) (lawful_next_body ex h.slots) (lawful_body_taken long h) body _ _ _ _ _ _ _ _ _ _ d
-    (does_now _ _ (body_taken long h body) (plain_give _) v e2 _ _ d.keeps.sound d.stops.kept
-    (ap (λ m. Done (Macro m) (state_of e2) nothing)
+    (does_now _ _ (body_taken long h body) (plain_give _) v e2 _ _ d.keeps.sound d.holds.owns d.stops.kept (λ shelf. ap (λ m. Done (Macro m) (state_of shelf e2) nothing)
     (ap (λ k. macro_of long k body) (sym (head_stays e1.names e2.names 0 d.keeps.grows c.in_ok-head.head c.in_ok-head.ensures.within)) ∙ sym (macro_at e2.names long c.in_ok-head.head c.in_ok-body.body c.in-Ok.made c.in-Ok.ensures)))))
 
 pub returns-in-Ok-clause-within : goal.returns-in-Ok-clause-within
@@ -47,4 +46,4 @@ returns-in-Err-clause-does g c =
     let d = c.in_ok-body.ensures.does in let e2 = c.next_body.new.engine in let body = tokens_at e2.names c.in_ok-body.body in
     does_then _ _ (λ n. parameter_text) (head_taken ex long) (lawful_plain parameter_text plain_parameter_text) (lawful_head_taken ex long) h _ _ _ _ _ _ _ _ _ _ f
     (does_then _ _ (next_body ex h.slots) (λ body n. body_taken long h body) (lawful_next_body ex h.slots) (lawful_body_taken long h) body _ _ _ _ _ _ _ _ _ _ d
-    (does_out _ _ (λ n. body_taken long h body) (lawful_body_taken long h body) c.no_memory.result e2 c.no_memory.new.self _ _ d.keeps.sound c.no_memory.ensures.is c.no_memory.ensures.kept))
+    (does_out _ _ (λ n. body_taken long h body) (lawful_body_taken long h body) c.no_memory.result e2 c.no_memory.new.self _ _ d.keeps.sound d.holds.owns c.no_memory.ensures.is c.no_memory.ensures.kept))

@@ -2,7 +2,7 @@ use Rattle.std.proofs.Common.{refl, rules}
 use Rattle.texml_token.specs.Numbers.{tokens_at}
 use Rattle.texml_expand.specs.State.{change}
 use Rattle.texml_assign.specs.Letters.{next_group, put_in_case}
-use Rattle.texml_assign.proofs.Doing.{does_stop_sure, does_then_sure, does_change}
+use Rattle.texml_assign.proofs.Doing.{does_stop_sure, does_put}
 use Rattle.texml_assign.proofs.Letters.{lawful_next_group, sure_case}
 use Rattle.texml_assign.proofs.letters.change_case.Goals as goal
 
@@ -14,5 +14,4 @@ returns-in_err-list-clause-does g c =
 pub returns-clause-does : goal.returns-clause-does
 returns-clause-does g c =
     let case = c.args.case in let mid = c.next_group.new.engine in let new = c.put_in_case.new.engine in let list = tokens_at mid.names c.in_ok-list.list in let r = c.put_in_case.ensures in
-    does_then_sure _ _ next_group (λ list n. change (put_in_case case list)) lawful_next_group (sure_case case) list c.put_in_case.result _ mid new _ _ _ _ _ _ c.in_ok-list.ensures.does
-    (does_change _ _ (put_in_case case list) c.put_in_case.result mid new _ _ r.puts r.kept r.keeps r.advances)
+    does_put _ _ _ next_group (λ list. change (put_in_case case list)) lawful_next_group (λ list s. tt) (λ list s. tt) list c.put_in_case.result _ mid new _ _ _ _ c.in_ok-list.ensures.does c.in_ok-list.ensures.takes r.changes r.kept r.keeps r.advances r.files r.puts

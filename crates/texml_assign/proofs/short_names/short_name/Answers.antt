@@ -12,7 +12,7 @@ use Rattle.texml_expand.specs.Absorb.{absorb}
 use Rattle.texml_expand.specs.Expand.{fetch, read_int, read_dimen, read_glue, read_keyword, read_index}
 use Rattle.texml_assign.proofs.Readings.{lawful_plain, plain_give}
 use Rattle.texml_assign.proofs.Parts.{plain_absorb, plain_set, plain_assign, plain_next_key}
-use Rattle.texml_assign.proofs.Doing.{does_call, does_then, does_stop, does_now, does_silent, does_fault, does_out, kept_of, keeps_of, advances_progress, advances_stopped}
+use Rattle.texml_assign.proofs.Doing.{does_then, does_stop}
 use Rattle.texml_assign.specs.Sets.{set, assign}
 use Rattle.texml_assign.specs.ShortNames.{short_key}
 use Rattle.texml_assign.specs.Operands.{next_key}
