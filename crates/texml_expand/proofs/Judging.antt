@@ -4,12 +4,14 @@ use Rattle.std.specs.Option.{option_map}
 use Rattle.texml_token.specs.Numbers.{Table, token_at}
 use Rattle.texml_token.specs.declared.tokens.Token.{Token as TokenCode}
 use Rattle.texml_scope.specs.declared.values.MeaningOf.TheVariants.{Undefined, Macro, Builtin}
-use Rattle.texml_scope.specs.declared.builtins.TheConstants.{NUMBER, ROMANNUMERAL, THE}
+use Rattle.texml_scope.specs.declared.builtins.TheConstants.{EXPANDAFTER, NOEXPAND, CSNAME, STRING, NUMBER, ROMANNUMERAL, THE, JOBNAME, ELSE, OR, FI}
+use Rattle.texml_cond.specs.declared.limits.Word.TheVariants as words
 use Rattle.texml_scope.specs.Texts.{Meaning}
 use Rattle.texml_scope.specs.Numbers.{MeaningCode, meaning_at}
 use Rattle.texml_expand.specs.declared.engine.expanding.Expandable.{Expandable as ExpandableCode}
 use Rattle.texml_expand.specs.declared.engine.expanding.Expandable.TheVariants as expandables
-use Rattle.texml_expand.specs.Calls.{Expandable, expandable_at, expandable}
+use Rattle.texml_expand.specs.Branches.{Test, test_at}
+use Rattle.texml_expand.specs.Calls.{Expandable, Conditional, expandable_at, expandable}
 use Rattle.texml_expand.specs.Quantities.{relaxed, frozen_as}
 use Rattle.texml_expand.specs.Fronts.{expandable_at as expandable_by, builtin_in, expandable_in, relaxed_in, frozen_in}
 
@@ -22,10 +24,24 @@ module _ (texts : Table) where
   if_at true e o x h = refl
   if_at false e o x h = h
 
+  tests_at : (o : Option Test) → option_map Conditional o ≡ option_map (expandable_by texts) (option_map expandables.Conditional o)
+  tests_at None = refl
+  tests_at (Some test) = refl
+
   builtin_at : (place : ℕ) → expandable_at place ≡ option_map (expandable_by texts) (builtin_in place)
   builtin_at place =
-      if_at (place == NUMBER) expandables.Number (if place == ROMANNUMERAL then Some expandables.RomanNumeral else if place == THE then Some expandables.The else None) _
-      (if_at (place == ROMANNUMERAL) expandables.RomanNumeral (if place == THE then Some expandables.The else None) _ (if_at (place == THE) expandables.The None None refl))
+      if_at (place == EXPANDAFTER) expandables.ExpandAfter (if place == NOEXPAND then Some expandables.NoExpand else if place == CSNAME then Some expandables.CsName else if place == STRING then Some expandables.String else if place == NUMBER then Some expandables.Number else if place == ROMANNUMERAL then Some expandables.RomanNumeral else if place == THE then Some expandables.The else if place == JOBNAME then Some expandables.JobName else if place == ELSE then Some (expandables.PartEnd words.Else) else if place == OR then Some (expandables.PartEnd words.Or) else if place == FI then Some (expandables.PartEnd words.Fi) else option_map expandables.Conditional (test_at place)) _
+      (if_at (place == NOEXPAND) expandables.NoExpand (if place == CSNAME then Some expandables.CsName else if place == STRING then Some expandables.String else if place == NUMBER then Some expandables.Number else if place == ROMANNUMERAL then Some expandables.RomanNumeral else if place == THE then Some expandables.The else if place == JOBNAME then Some expandables.JobName else if place == ELSE then Some (expandables.PartEnd words.Else) else if place == OR then Some (expandables.PartEnd words.Or) else if place == FI then Some (expandables.PartEnd words.Fi) else option_map expandables.Conditional (test_at place)) _
+      (if_at (place == CSNAME) expandables.CsName (if place == STRING then Some expandables.String else if place == NUMBER then Some expandables.Number else if place == ROMANNUMERAL then Some expandables.RomanNumeral else if place == THE then Some expandables.The else if place == JOBNAME then Some expandables.JobName else if place == ELSE then Some (expandables.PartEnd words.Else) else if place == OR then Some (expandables.PartEnd words.Or) else if place == FI then Some (expandables.PartEnd words.Fi) else option_map expandables.Conditional (test_at place)) _
+      (if_at (place == STRING) expandables.String (if place == NUMBER then Some expandables.Number else if place == ROMANNUMERAL then Some expandables.RomanNumeral else if place == THE then Some expandables.The else if place == JOBNAME then Some expandables.JobName else if place == ELSE then Some (expandables.PartEnd words.Else) else if place == OR then Some (expandables.PartEnd words.Or) else if place == FI then Some (expandables.PartEnd words.Fi) else option_map expandables.Conditional (test_at place)) _
+      (if_at (place == NUMBER) expandables.Number (if place == ROMANNUMERAL then Some expandables.RomanNumeral else if place == THE then Some expandables.The else if place == JOBNAME then Some expandables.JobName else if place == ELSE then Some (expandables.PartEnd words.Else) else if place == OR then Some (expandables.PartEnd words.Or) else if place == FI then Some (expandables.PartEnd words.Fi) else option_map expandables.Conditional (test_at place)) _
+      (if_at (place == ROMANNUMERAL) expandables.RomanNumeral (if place == THE then Some expandables.The else if place == JOBNAME then Some expandables.JobName else if place == ELSE then Some (expandables.PartEnd words.Else) else if place == OR then Some (expandables.PartEnd words.Or) else if place == FI then Some (expandables.PartEnd words.Fi) else option_map expandables.Conditional (test_at place)) _
+      (if_at (place == THE) expandables.The (if place == JOBNAME then Some expandables.JobName else if place == ELSE then Some (expandables.PartEnd words.Else) else if place == OR then Some (expandables.PartEnd words.Or) else if place == FI then Some (expandables.PartEnd words.Fi) else option_map expandables.Conditional (test_at place)) _
+      (if_at (place == JOBNAME) expandables.JobName (if place == ELSE then Some (expandables.PartEnd words.Else) else if place == OR then Some (expandables.PartEnd words.Or) else if place == FI then Some (expandables.PartEnd words.Fi) else option_map expandables.Conditional (test_at place)) _
+      (if_at (place == ELSE) (expandables.PartEnd words.Else) (if place == OR then Some (expandables.PartEnd words.Or) else if place == FI then Some (expandables.PartEnd words.Fi) else option_map expandables.Conditional (test_at place)) _
+      (if_at (place == OR) (expandables.PartEnd words.Or) (if place == FI then Some (expandables.PartEnd words.Fi) else option_map expandables.Conditional (test_at place)) _
+      (if_at (place == FI) (expandables.PartEnd words.Fi) (option_map expandables.Conditional (test_at place)) _
+      (tests_at (test_at place))))))))))))
 
   pub by_meaning : (m : Option MeaningCode) → expandable (meant m) ≡ option_map (expandable_by texts) (expandable_in m)
   by_meaning None = refl

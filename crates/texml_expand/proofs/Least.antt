@@ -3,8 +3,8 @@ use Rattle.std.proofs.Common.{◌≡◌, ◌+◌, ◌≤◌, ◌<◌, ℕ, zero,
 use Rattle.texml_token.specs.Token.{Token}
 use Rattle.texml_expand.specs.declared.feeding.Verdict.{Verdict}
 use Rattle.texml_expand.specs.declared.feeding.Verdict.TheVariants.{TooShort, Yields, Refuses}
-use Rattle.texml_expand.specs.Next.{Taken, Given, Got, AtEnd, Invalid, next}
-use Rattle.texml_expand.specs.Codes.{cats_of, end_of}
+use Rattle.texml_input.specs.Next.{Taken, Given, Got, AtEnd, Invalid, next}
+use Rattle.texml_input.specs.Codes.{cats_of, end_of}
 use Rattle.texml_expand.specs.State.{State, End, room, nothing, Answer, Done, Ended, Unfinished, Reading, after, chain, IsDecided, give, ◌>>=◌}
 use Rattle.texml_expand.specs.Take.{take_given, take}
 use Rattle.texml_expand.specs.Least.{inside_if, inside, inner_token, next_tokens, least, decides, decided, is_enough, by_tokens, by_least}
@@ -111,7 +111,7 @@ next_decided (suc k) s = chain_decided (λ list t. Unit {0}) (next_tokens k s) o
 
 module _ {A : Type 0} (decide : List Token → Verdict A) where
   -- more tokens than there is room for are always enough
-  enough_past : (k : ℕ) (s : State) (a : Answer (List Token)) → room s < k → Leads (λ list t. Took k s list t) a → is_enough decide a ≡ true
+  pub enough_past : (k : ℕ) (s : State) (a : Answer (List Token)) → room s < k → Leads (λ list t. Took k s list t) a → is_enough decide a ≡ true
   enough_past k s (Done list t gains) lt h = let le = takes_room k s t h.takes in absurd (omega arith)
   enough_past k s (Ended e gains) lt h = refl
   enough_past k s (Unfinished gains) lt h = refl

@@ -1,7 +1,4 @@
 pub mod Items
-pub mod Pages
-pub mod Turns
-pub mod Onward
 pub mod Lower
 pub mod Catcodes
 pub mod Taking
@@ -15,6 +12,9 @@ pub mod Calling
 pub mod Readings
 pub mod Lawful
 pub mod Looking
+pub mod Standing
+pub mod Giving
+pub mod Branching
 pub mod Levels
 pub mod Settle
 pub mod Total
@@ -24,6 +24,7 @@ mod Rows
 pub mod Scanning
 pub mod Printing
 pub mod Judging
+pub mod Faces
 pub mod Fronts
 pub mod Doing
 pub mod Rounds
@@ -33,6 +34,9 @@ pub mod Worth
 pub mod Within
 pub mod Least
 pub mod Fed
+pub mod Stepping
+pub mod Skips
+pub mod Seeks
 pub mod Groups
 pub mod Sequence
 pub mod Spacing
@@ -40,3 +44,7 @@ pub mod Matching
 pub mod Mapping
 pub mod Called
 pub mod Lengths
+pub mod Placing
+pub mod Running
+pub mod Getting
+pub mod Inputs

@@ -2,7 +2,7 @@
 use Rattle.std.proofs.Common.{◌≡◌, ◌+◌, ◌≤◌, ℕ, zero, suc, Bool, true, false, ◌||◌, if◌then◌else◌, append-nil, Option, Some, None, Err, refl, sym, ap, ◌∙◌, arith}
 use Rattle.texml_expand.specs.declared.stop.Stop.{Stop}
 use Rattle.texml_expand.specs.declared.stop.Stop.TheVariants as stop
-use Rattle.texml_expand.specs.Next.{Taken}
+use Rattle.texml_input.specs.Next.{Taken}
 use Rattle.texml_expand.specs.State.{State, End, Tex, Limit, room, nothing, Answer, Done, Ended, Unfinished, Reading, after, chain, give}
 use Rattle.texml_expand.specs.Take.{take}
 use Rattle.texml_expand.specs.Arguments.{is_space, past_space, past_spaces, behind_spaces}
