@@ -1,14 +1,16 @@
 -- Calls that tell nobody, one after the other.
 use Rattle.std.proofs.Common.{◌≡◌, ℕ, IsTrue, List, None, Some, Result, Ok, Err, refl, sym, subst}
 use Rattle.std.specs.Result.{OnOk}
+use Rattle.texml_token.specs.Numbers.{Table}
 use Rattle.texml_expand.specs.declared.stop.Stop.{Stop}
 use Rattle.texml_expand.specs.declared.stop.Stop.TheVariants as stop
-use Rattle.texml_expand.specs.State.{State, nothing, Tex, Answer, Ended, Reading, ◌>>=◌, chain, give, fault_at}
+use Rattle.texml_expand.specs.State.{State, nothing, Tex, Answer, Done, Ended, Reading, ◌>>=◌, chain, give, fault_at}
 use Rattle.texml_expand.specs.Contract.{Silent, Local, Quiet, Reads, Outside, IsFaultAt, stop_after}
-use Rattle.texml_expand.specs.Held.{Held, place_of, state_of, Sound, Kept, Progress, IsAtLimit, Owns, SameFiles}
+use Rattle.texml_expand.specs.Held.{Held, place_of, state_of, Sound, Kept, Progress, IsAtLimit, Owns, SameFiles, ok_at}
 use Rattle.texml_expand.specs.Doing.{Gets, Runs}
 use Rattle.texml_expand.proofs.Meeting.{silent_fails_not}
-use Rattle.texml_expand.proofs.Running.{told_on, runs_then, runs_stop, runs_local, runs_now, runs_fault, runs_out, gets_runs}
+use Rattle.texml_expand.proofs.Fronts.{kept_itself}
+use Rattle.texml_expand.proofs.Running.{limit_as, told_on, runs_then, runs_stop, runs_local, runs_now, runs_fault, runs_out, gets_runs}
 use Rattle.texml_expand.proofs.Sequence.{quiet_silent, quiet_then, quiet_stops}
 use Rattle.texml_expand.proofs.Taking.{quiet_fault}
 
@@ -50,5 +52,19 @@ gets_fault x code about e old new f is fault e' owns =
 
 -- want of memory
 pub gets_out : {A : Type 0} (x : Reading A) (e : Stop) (old new : Held) (f : Outside) → e ≡ stop.NoMemory → new ≡ record old { stop = Some stop.NoMemory } → Owns f.shelf old → Gets x (Err e) old new f f
-gets_out x e old new f no is owns =
-    gets_by x (Err e) old new f f (λ told. subst (λ (s : Stop). Quiet (x (state_of f.shelf old)) (Err s) (state_of f.shelf new)) (sym no) tt) (runs_out e old new f no is owns)
+gets_out x e old new f short is owns =
+    gets_by x (Err e) old new f f (λ told. subst (λ (s : Stop). Quiet (x (state_of f.shelf old)) (Err s) (state_of f.shelf new)) (sym short) tt) (runs_out e old new f short is owns)
+
+-- a call that takes no files and changes nothing, whose value stands for another one
+pub gets_new : {A B : Type 0} (at : Table → A → B) (x : Reading B) (r : Result A Stop) (old new : Held) (f : Outside) → Local x (ok_at (at old.names) r) old new → OnOk r (new ≡ old) → new.stop ≡ stop_after r → IsAtLimit r new → Sound old
+    → Progress old new → SameFiles old new → Owns f.shelf old → Gets x (ok_at (at new.names) r) old new f f
+gets_new at x (Ok v) old new f h same kept limit sound progress files owns =
+    gets_local x (Ok (at new.names v)) old new f (λ shelf. subst (λ (n : Held). x (state_of shelf old) ≡ Done (at n.names v) (state_of shelf new) nothing) (sym same) (h shelf)) kept tt
+    (subst (Kept old) (sym same) (kept_itself old sound)) progress files owns
+gets_new {A = A} {B = B} at x (Err e) old new f h same kept limit sound progress files owns = gets_local x (Err e) old new f h kept (limit_as A B e new limit) tt progress files owns
+
+-- a call that takes no files, whose value stands for another one
+pub gets_at : {A B : Type 0} (at : A → B) (x : Reading B) (r : Result A Stop) (old new : Held) (f : Outside) → Local x (ok_at at r) old new → new.stop ≡ stop_after r → IsAtLimit r new → OnOk r (Kept old new) → Progress old new → SameFiles old new
+    → Owns f.shelf old → Gets x (ok_at at r) old new f f
+gets_at at x (Ok v) old new f h kept limit keeps progress files owns = gets_local x (Ok (at v)) old new f h kept tt keeps progress files owns
+gets_at {A = A} {B = B} at x (Err e) old new f h kept limit keeps progress files owns = gets_local x (Err e) old new f h kept (limit_as A B e new limit) tt progress files owns

@@ -37,7 +37,7 @@ module _ (h : Held) (names : Table) (input : HeldInput) (a b : Shelf) (reads rea
   mid_holds = record { owns = record { held = holds.held; all = holds.exact owns.all }; tells = holds.tells; contents = holds.contents; fences = fences }
 
   mid_progress : Progress h mid
-  mid_progress = record { names = grows; begun = omega arith; limit = refl; writes = refl }
+  mid_progress = record { names = grows; begun = omega arith; limit = refl; writes = omega arith }
 
   -- it stops there
   stopped : {A : Type 0} (e : Stop) (new : Held) → new ≡ record mid { stop = Some e } → ReadsBecause {A = A} (Err e) reads reads' → TellsBecause {A = A} (Err e) 0 0 → IsAtLimit {A = A} (Err e) new
@@ -51,8 +51,8 @@ module _ (h : Held) (names : Table) (input : HeldInput) (a b : Shelf) (reads rea
   }
 
   pub out_gets : (e : Stop) (new : Held) → e ≡ stop.NoMemory → new ≡ record mid { stop = Some stop.NoMemory } → reads' ≡ reads → Gets take (Err e) h new (files_at a reads) (files_at b reads')
-  out_gets e new no is same =
-      subst (λ (s : Stop). Gets take (Err s) h new (files_at a reads) (files_at b reads')) (sym no)
+  out_gets e new short is same =
+      subst (λ (s : Stop). Gets take (Err s) h new (files_at a reads) (files_at b reads')) (sym short)
       (gets_by take (Err stop.NoMemory) h new (files_at a reads) (files_at b reads') (λ told. tt) (stopped stop.NoMemory new is same refl tt))
 
   pub failed_gets : (new : Held) → new ≡ record mid { stop = Some stop.ReadFailed } → Rose reads reads' → Gets take (Err stop.ReadFailed) h new (files_at a reads) (files_at b reads')
@@ -74,16 +74,16 @@ module _ (h : Held) (names : Table) (input : HeldInput) (a b : Shelf) (reads rea
       next_by (state_of a h) h.input.place (cats_of (world_of h.scope)) (end_of (world_of h.scope)) (given_at names r) (rest_at names b input.sources) input.place (cats_same h.names (world_of h.scope)) (end_same h.names (world_of h.scope)) (n told)
 
   pub invalid_gets : (c : ℕ) (e : Stop) (new : Held) → Next (Err (fault.Invalid c)) → IsFaultAt INVALID_CHAR [] (place_of mid) e → new ≡ record mid { stop = Some e } → reads' ≡ reads → Gets take (Err e) h new (files_at a reads) (files_at b reads')
-  invalid_gets c e new n fault is same =
+  invalid_gets c e new n bad is same =
       gets_by take (Err e) h new (files_at a reads) (files_at b reads')
-      (λ told. quiet_fault (take (state_of a h)) INVALID_CHAR [] (place_of mid) e (state_of b new) (take_invalid (state_of a h) h.main h.input.place refl c (rest_at names b input.sources) input.place (next_in (Err (fault.Invalid c)) n told)) fault)
-      (fault_runs INVALID_CHAR [] e new fault is same)
+      (λ told. quiet_fault (take (state_of a h)) INVALID_CHAR [] (place_of mid) e (state_of b new) (take_invalid (state_of a h) h.main h.input.place refl c (rest_at names b input.sources) input.place (next_in (Err (fault.Invalid c)) n told)) bad)
+      (fault_runs INVALID_CHAR [] e new bad is same)
 
   pub not_utf8_gets : (e : Stop) (new : Held) → Next (Err fault.NotUtf8) → IsFaultAt NOT_UTF8 [] (place_of mid) e → new ≡ record mid { stop = Some e } → reads' ≡ reads → Gets take (Err e) h new (files_at a reads) (files_at b reads')
-  not_utf8_gets e new n fault is same =
+  not_utf8_gets e new n bad is same =
       gets_by take (Err e) h new (files_at a reads) (files_at b reads')
-      (λ told. quiet_fault (take (state_of a h)) NOT_UTF8 [] (place_of mid) e (state_of b new) (take_not_utf8 (state_of a h) h.main h.input.place refl (rest_at names b input.sources) input.place (next_in (Err fault.NotUtf8) n told)) fault)
-      (fault_runs NOT_UTF8 [] e new fault is same)
+      (λ told. quiet_fault (take (state_of a h)) NOT_UTF8 [] (place_of mid) e (state_of b new) (take_not_utf8 (state_of a h) h.main h.input.place refl (rest_at names b input.sources) input.place (next_in (Err fault.NotUtf8) n told)) bad)
+      (fault_runs NOT_UTF8 [] e new bad is same)
 
   -- a token was taken, or nothing is left
   pub took_gets : (o : Option Read) → Next (Ok o) → (IsTrue a.tells → aside_of b input.sources ≡ aside_of a h.input.sources) → Numbered names → SourcesWithin (length names) input.sources → input.fault ≡ None → h.stop ≡ None → reads' ≡ reads

@@ -3,7 +3,7 @@ use Rattle.std.proofs.Common.{◌≡◌, ◌+◌, ◌≤◌, ◌<◌, ℕ, zero,
 use Rattle.texml_token.specs.Token.{Token}
 use Rattle.texml_expand.specs.declared.feeding.Verdict.{Verdict}
 use Rattle.texml_expand.specs.declared.feeding.Verdict.TheVariants.{TooShort, Yields, Refuses}
-use Rattle.texml_input.specs.Next.{Taken, Given, Got, AtEnd, Invalid, next}
+use Rattle.texml_input.specs.Next.{Taken, Given, Got, AtEnd, Invalid, NotUtf8, next}
 use Rattle.texml_input.specs.Codes.{cats_of, end_of}
 use Rattle.texml_expand.specs.State.{State, End, room, nothing, Answer, Done, Ended, Unfinished, Reading, after, chain, IsDecided, give, ◌>>=◌}
 use Rattle.texml_expand.specs.Take.{take_given, take}
@@ -52,9 +52,10 @@ pub takes_room : (k : ℕ) (s t : State) → Takes k s t → k ≤ room s
 takes_room k s t g = let l = g.lower.size g.begun in omega arith
 
 given_takes : (s : State) (g : Given) → Leads (λ o t. Lower (count o) s t) (take_given g s) → Leads (λ o t. Takes (count o) s t) (take_given g s)
-given_takes s (Got t rest place) l = record { begun = refl; lower = l }
-given_takes s (AtEnd place) l = record { begun = refl; lower = l }
-given_takes s (Invalid c place) l = tt
+given_takes s (Got t rest place bytes) l = record { begun = refl; lower = l }
+given_takes s (AtEnd place bytes) l = record { begun = refl; lower = l }
+given_takes s (Invalid c place bytes) l = tt
+given_takes s (NotUtf8 place bytes) l = tt
 
 pub take_takes : (s : State) → Leads (λ o t. Takes (count o) s t) (take s)
 take_takes s = given_takes s (next (cats_of s.world) (end_of s.world) s.rest s.place) (take_leads s)

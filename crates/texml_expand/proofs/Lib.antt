@@ -37,6 +37,7 @@ pub mod Fed
 pub mod Stepping
 pub mod Skips
 pub mod Seeks
+pub mod Skipping
 pub mod Groups
 pub mod Sequence
 pub mod Spacing

@@ -351,3 +351,9 @@ ended_gives g (Ok v) xs scanned.Asked is h = absurd h
 ended_gives g (Ok v) xs (scanned.Decided w n) is h = record { looks = xs; back = suc n; is = is ∙ ap (λ z. Decided z (suc n)) h }
 ended_gives g (Ok v) xs (scanned.Faulty f) is h = absurd h
 ended_gives g (Err e) xs x is h = tt
+
+-- the end is no token of what was seen
+pub end_gives : {T : Type 0} (hear part : T → Record → T → Type 0) (g : Remainder Value) (r : Result Value Stop) (old now : Held) (f k : Outside) (a b : T) (left : Remainder Value) (x end : Scanned) (seen : List SeenCode) (raw : Bool)
+    → Scanning hear part g old f a left x seen now k b → raw_in x ≡ Some raw → left (End ∷ []) ≡ ended_as end → IfOk r (λ v. HasValue v end) → IfOk r (MayGive g)
+end_gives hear part g r old now f k a b left x end seen raw i some is h =
+    ended_gives g r (looks_in seen ++ End ∷ []) end (sym (goes_on x raw ((more : List Look) → left more ≡ g (looks_in seen ++ more)) some i.left (End ∷ [])) ∙ is) h

@@ -1,5 +1,6 @@
 -- The place of an engine: before the first line it is in the main file.
 use Rattle.std.proofs.Common.{◌≡◌, ◌≤◌, ℕ, ◌==◌, zero, suc, true, false, Bool, if◌then◌else◌, List, [], ◌∷◌, Option, Some, None, refl, sym, ap, ◌∙◌, arith}
+use Rattle.std.proofs.lemmas.Bool.{ne_eqb}
 use Rattle.texml_base.specs.Rising.{add_up}
 use Rattle.texml_token.specs.Token.{Token}
 use Rattle.texml_text.specs.Lines.{loaded}
@@ -20,11 +21,7 @@ placed_line : (main name : List ℕ) (n : ℕ) → (n == 0) ≡ false → placed
 placed_line main name n e = ap (λ b. if b then place_at main 0 else place_at name n) e
 
 one_more : (n : ℕ) → (add_up n 1 == 0) ≡ false
-one_more n = not_zero (add_up n 1) (omega arith)
-  where
-    not_zero : (m : ℕ) → 1 ≤ m → (m == 0) ≡ false
-    not_zero zero h = absurd (omega (arith, h))
-    not_zero (suc m) h = refl
+one_more n = ne_eqb (add_up n 1) 0 (λ e. absurd (omega (arith, e)))
 
 placed_loaded : (main name : List ℕ) (n : ℕ) → placed main (place_at name (add_up n 1)) ≡ place_at name (add_up n 1)
 placed_loaded main name n = placed_line main name (add_up n 1) (one_more n)

@@ -10,6 +10,7 @@ use Rattle.texml_input.specs.Held.{Source, Plain, Marked, back_source, ids_of, f
 use Rattle.texml_input.proofs.Sources.{aside_put, ids_put, fences_put, room_put, within_put}
 use Rattle.texml_input.proofs.Standing.{rest_tokens, rest_back, within_back}
 use Rattle.texml_expand.specs.declared.stop.Stop.{Stop}
+use Rattle.texml_expand.specs.State.{State}
 use Rattle.texml_expand.specs.Expand.{put, back, finished}
 use Rattle.texml_expand.specs.Held.{Held, state_of, Sound, Kept, SameFiles, Puts}
 
@@ -56,4 +57,4 @@ files_back h t false = record { ids = refl; fences = refl }
 -- the end of an expansion, before it is told of
 pub state_finished : (h : Held) (list : List TokenCode) (shelf : Shelf)
     → state_of shelf (record h { input = record h.input { sources = map Plain list ++ h.input.sources }; nesting = h.nesting - 1 }) ≡ finished (tokens_at h.names list) (state_of shelf h)
-state_finished h list shelf = ap (λ s. record s { nesting = h.nesting - 1 }) (state_put h list shelf)
+state_finished h list shelf = ap (λ (s : State). record s { nesting = h.nesting - 1 }) (state_put h list shelf)

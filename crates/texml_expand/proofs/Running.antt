@@ -9,7 +9,7 @@ use Rattle.texml_expand.specs.declared.stop.Stop.TheVariants as stop
 use Rattle.texml_expand.specs.State.{Reading}
 use Rattle.texml_expand.specs.Expand.{ByDepth}
 use Rattle.texml_expand.specs.Contract.{Outside, outside, files_at, Stops, IsFaultAt, stop_after}
-use Rattle.texml_expand.specs.Held.{Held, place_of, Sound, Kept, Progress, IsAtLimit, Owns, Holding, SameFiles, held_room, Shrinks, Begun, Puts}
+use Rattle.texml_expand.specs.Held.{Held, place_of, Sound, Kept, Progress, IsAtLimit, Owns, Holding, SameFiles, ok_at, held_room, Shrinks, Begun, Puts}
 use Rattle.texml_expand.specs.Doing.{Does, Gets, Runs}
 use Rattle.texml_expand.proofs.Meeting.{NothingFails, stops_untold, stops_then, stops_same, stops_as}
 use Rattle.texml_expand.proofs.Fronts.{kept_then, kept_itself}
@@ -120,6 +120,16 @@ runs_then v r old mid new f g h d e = record {
 pub runs_stop : {A B : Type 0} (e : Stop) (old new : Held) (f g : Outside) → Runs {A = A} (Err e) old new f g → Runs {A = B} (Err e) old new f g
 runs_stop {A = A} {B = B} e old new f g d = record { stops = stops_as A B e f g new.stop d.stops; limit = limit_as A B e new d.limit; keeps = tt; progress = d.progress; holds = d.holds }
 
+-- the value doesn't matter
+pub runs_as : {A B : Type 0} (v : A) (w : B) (old new : Held) (f g : Outside) → Runs (Ok v) old new f g → Runs (Ok w) old new f g
+runs_as v w old new f g d = record {
+  stops = record { kept = d.stops.kept; reads = d.stops.reads; tells = d.stops.tells; loan = d.stops.loan };
+  limit = tt;
+  keeps = d.keeps;
+  progress = d.progress;
+  holds = d.holds;
+}
+
 -- a call that takes no files
 pub runs_local : {A : Type 0} (r : Result A Stop) (old new : Held) (f : Outside) → new.stop ≡ stop_after r → NothingFails r → IsAtLimit r new → OnOk r (Kept old new) → Progress old new → SameFiles old new → Owns f.shelf old
     → Runs r old new f f
@@ -153,8 +163,8 @@ runs_fault {A = A} code about e old new f fault is owns =
     runs_local (Err e) old new f (ap (λ (h : Held). h.stop) is) (fault_fine A code about old e fault) (fault_limit A code about old new e fault) tt (progress_stopped old new e is) (files_stopped old new e is) owns
 
 pub runs_out : {A : Type 0} (e : Stop) (old new : Held) (f : Outside) → e ≡ stop.NoMemory → new ≡ record old { stop = Some stop.NoMemory } → Owns f.shelf old → Runs {A = A} (Err e) old new f f
-runs_out {A = A} e old new f no is owns =
-    subst (λ (s : Stop). Runs {A = A} (Err s) old new f f) (sym no)
+runs_out {A = A} e old new f short is owns =
+    subst (λ (s : Stop). Runs {A = A} (Err s) old new f f) (sym short)
     (runs_local (Err stop.NoMemory) old new f (ap (λ (h : Held). h.stop) is) tt tt tt (progress_stopped old new stop.NoMemory is) (files_stopped old new stop.NoMemory is) owns)
 
 -- a call that tells nobody, where somebody is told
@@ -173,3 +183,13 @@ gets_runs x r old new f g d = record { stops = d.stops; limit = d.limit; keeps =
 
 pub does_runs : {T A : Type 0} (hear part : T → Record → T → Type 0) (x : ByDepth A) (r : Result A Stop) (old new : Held) (f g : Outside) (a b : T) → Does hear part x r old new f g a b → Runs r old new f g
 does_runs hear part x r old new f g a b d = record { stops = d.stops; limit = d.limit; keeps = d.keeps; progress = d.progress; holds = d.holds }
+
+-- the value stands for another one
+pub runs_at : {A B : Type 0} (at : A → B) (r : Result A Stop) (old new : Held) (f g : Outside) → Runs r old new f g → Runs (ok_at at r) old new f g
+runs_at at (Ok v) old new f g d = runs_as v (at v) old new f g d
+runs_at at (Err e) old new f g d = runs_stop e old new f g d
+
+-- some of the tokens that were read are put back, if all is well
+pub ok_puts : {A : Type 0} (r : Result A Stop) (j k m : ℕ) (a b : Shelf) (old mid new : Held) → Shrinks j a old b mid → OnOk r (Puts k mid new) → m + k ≤ j → OnOk r (Shrinks m a old b new)
+ok_puts (Ok v) j k m a b old mid new g h le = shrinks_puts j k m a b old mid new g h le
+ok_puts (Err e) j k m a b old mid new g h le = tt

@@ -5,9 +5,9 @@ use Rattle.texml_expand.specs.declared.feeding.Verdict.{Verdict}
 use Rattle.texml_expand.specs.declared.feeding.Verdict.TheVariants.{TooShort, Yields, Refuses}
 use Rattle.texml_expand.specs.State.{State, End, Gains, room, nothing, Answer, Done, Ended, Unfinished, Reading, ◌⊕◌, after, chain, give}
 use Rattle.texml_expand.specs.Least.{inner_token, next_tokens, least, decides, decided, is_enough, by_tokens, by_least}
-use Rattle.texml_expand.proofs.Leading.{Leads, leads_chain}
-use Rattle.texml_expand.proofs.Least.{Takes, Took, next_took, one_more, least_is, least_holds, enough_past, by_least_at, by_least_ends}
-use Rattle.texml_expand.proofs.Fed.{tokens_more_one, tokens_end, inner_smaller}
+use Rattle.texml_expand.proofs.Leading.{Leads, leads_chain, leads_at}
+use Rattle.texml_expand.proofs.Least.{Takes, Took, inner_takes, next_took, one_more, least_is, least_holds, enough_past, by_least_at, by_least_ends}
+use Rattle.texml_expand.proofs.Fed.{tokens_more_one, tokens_end}
 
 -- the least number is no greater than the bound, and the test fails below it
 least_le : (n : ℕ) (p : ℕ → Bool) → least n p ≤ n
@@ -18,14 +18,14 @@ least_le (suc n) p = at (p zero) (least_le n (λ k. p (suc k)))
     at true le = omega arith
     at false le = omega arith
 
+fails_if : (b : Bool) (j k : ℕ) (p : ℕ → Bool) → p zero ≡ b → ((i : ℕ) → i < k → p (suc i) ≡ false) → j < (if b then zero else suc k) → p j ≡ false
+fails_if true j k p e h lt = absurd (omega (arith, lt))
+fails_if false zero k p e h lt = e
+fails_if false (suc i) k p e h lt = h i (omega (arith, lt))
+
 least_fails : (n j : ℕ) (p : ℕ → Bool) → j < least n p → p j ≡ false
 least_fails zero j p lt = absurd (omega (arith, lt))
-least_fails (suc n) j p lt = at (p zero) j refl lt
-  where
-    at : (b : Bool) (j : ℕ) → p zero ≡ b → j < (if b then zero else suc (least n (λ k. p (suc k)))) → p j ≡ false
-    at true j e lt = absurd (omega (arith, lt))
-    at false zero e lt = e
-    at false (suc i) e lt = least_fails n i (λ k. p (suc k)) (omega (arith, lt))
+least_fails (suc n) j p lt = fails_if (p zero) j (least n (λ k. p (suc k))) p refl (λ i less. least_fails n i (λ k. p (suc k)) less) lt
 
 -- a token before a list that is answered
 abbrev pub before : Token → Answer (List Token) → Answer (List Token)
@@ -52,6 +52,10 @@ before_more t (Unfinished gains) = refl
 front_tokens : (k : ℕ) (s u : State) (t : Token) → inner_token s ≡ Done t u nothing → next_tokens (suc k) s ≡ before t (next_tokens k u)
 front_tokens zero s u t e = tokens_more_one s s u [] t 0 refl e
 front_tokens (suc k) s u t e = ap (λ a. chain a one_more) (front_tokens k s u t e) ∙ before_more t (next_tokens k u)
+
+-- a token leaves less to be read
+token_smaller : (s u : State) (t : Token) → inner_token s ≡ Done t u nothing → room u + 1 ≤ room s
+token_smaller s u t e = let l = leads_at (λ x v. Takes 1 s v) (inner_token s) t u nothing e (inner_takes s) in l.lower.size l.begun
 
 module _ {A : Type 0} (decide : List Token → Verdict A) where
   -- what more tokens decide behind one
@@ -88,7 +92,7 @@ module _ {A : Type 0} (decide : List Token → Verdict A) where
     least_all : least (room s + 1) all ≡ suc least_others
     least_all =
         let le = least_le (room u + 1) others in
-        let smaller = inner_smaller s u t e in
+        let smaller = token_smaller s u t e in
         least_is (room s + 1) (suc least_others) all (omega (arith, le, smaller)) fails_below
         (all_suc least_others ∙ least_holds (room u + 1) others (enough_past (behind_one t) (room u + 1) u (next_tokens (room u + 1) u) (omega arith) (next_took (room u + 1) u)))
 

@@ -73,8 +73,9 @@ module _ {V : Type 0} (judge : Judge V) (old : State) where
   FeedsTold before result texts now = IsTrue before.tells → Feeds result texts now
 
 -- tokens were fed that decide on a value, and less is left to read by each of them
-pub record Fed {V : Type 0} (judge : Judge V) (value : V) (before : Shelf) (old : Held) (now : Shelf) (new : Held) : Type 0 where
+pub record FedBy {V : Type 0} (judge : Judge V) (value : V) (before : Shelf) (old : Held) (now : Shelf) (new : Held) : Type 0 where
   pub list : List TokenCode
+  pub within : TokensWithin (length new.names) list
   pub is : judge new.names list ≡ Yields value
   pub shrinks : Shrinks (length list) before old now new
 

@@ -7,14 +7,14 @@ ghost use Rattle.texml_scope.specs.Numbers.{meaning_at, MacroWithin};
 ghost use Rattle.texml_match.specs.Shape.{ShapeWithin, shape_at, is_empty};
 ghost use Rattle.texml_match.specs.Arguments.{reading, argument as spec_argument};
 ghost use Rattle.texml_expand.specs.declared.feeding.Verdict.TheVariants.{TooShort};
-ghost use Rattle.texml_expand.specs.Feeding.{FeedsTold, Fed};
+ghost use Rattle.texml_expand.specs.Feeding.{FeedsTold, FedBy};
 ghost use Rattle.texml_expand.specs.Least.{inner_token as spec_inner_token};
 ghost use Rattle.texml_expand.specs.Absorb.{absorb as spec_absorb};
 ghost use Rattle.texml_expand.specs.Arguments.{fault_number, read_by, is_sign as spec_is_sign, sign_or_back as spec_sign_or_back, sign as spec_sign, optional as spec_optional};
 ghost use Rattle.texml_expand.specs.Arguments.{means_space as spec_means_space, is_space as spec_is_space, behind_spaces as spec_behind_spaces, first_argument as spec_first_argument};
 ghost use Rattle.texml_expand.specs.Arguments.{macro_arguments as spec_macro_arguments, called as spec_called, read_argument as spec_read_argument, read_optional as spec_read_optional};
 ghost use Rattle.texml_expand.specs.Fronts.{macro_at};
-ghost use Rattle.texml_expand.specs.Matched.{Matched};
+ghost use Rattle.texml_expand.specs.Matched.{MatchedBy};
 ghost use Rattle.texml_expand.specs.Held.{state_of, world_in, Sound, Kept, Progress, IsAtLimit, ok_at, read_at, ReadWithin, Owns, Holding, SameFiles, Shrinks, Puts};
 ghost use Rattle.texml_expand.specs.Contract.{Local, Reads, AnswersKept, Stops, outside, files_at, stop_after};
 ghost use Rattle.texml_expand.specs.Doing.{Gets, Runs};
@@ -146,7 +146,7 @@ impl Engine {
         requires owns { Owns (F.shelf files.old) self.old }
         requires short { self.old.stop ≡ None → (texts : Table) → D.judge feeder.old texts [] ≡ TooShort }
         ensures feeds { self.old.stop ≡ None → FeedsTold (D.judge feeder.old) (state_of (F.shelf files.old) self.old) (F.shelf files.old) result self.new.names (state_of (F.shelf files.new) self.new) }
-        ensures lower { self.old.stop ≡ None → IfOk result (λ v. Fed (D.judge feeder.old) v (F.shelf files.old) self.old (F.shelf files.new) self.new) }
+        ensures lower { self.old.stop ≡ None → IfOk result (λ v. FedBy (D.judge feeder.old) v (F.shelf files.old) self.old (F.shelf files.new) self.new) }
         ensures stops { self.old.stop ≡ None → Stops result (outside (F.shelf files.old) (F.faults files.old) (T.faults tell.old) (T.loan tell.old)) (outside (F.shelf files.new) (F.faults files.new) (T.faults tell.new) (T.loan tell.new)) self.new.stop }
         ensures progress { Progress self.old self.new }
         ensures limit { self.old.stop ≡ None → IsAtLimit result self.new }
@@ -279,7 +279,7 @@ impl Engine {
         requires shape { ShapeWithin (length self.old.names) shape.now }
         requires some { is_empty shape.now ≡ false }
         ensures gets { Gets (read_by (reading (shape_at self.old.names shape.now))) (ok_at (map (tokens_at self.new.names)) result) self.old self.new (files_at (F.shelf files.old) (F.faults files.old)) (files_at (F.shelf files.new) (F.faults files.new)) }
-        ensures lower { IfOk result (λ args. Matched shape.now args (F.shelf files.old) self.old (F.shelf files.new) self.new) }
+        ensures lower { IfOk result (λ args. MatchedBy shape.now args (F.shelf files.old) self.old (F.shelf files.new) self.new) }
         ensures within { IfOk result (All (TokensWithin (length self.new.names))) }
     {
         let mut matcher = ArgMatch::new(self.alloc);
@@ -417,6 +417,7 @@ impl Engine {
         requires owns { Owns (F.shelf files.old) self.old }
         ensures gets { Gets spec_inner_token (ok_at (token_at self.new.names) result) self.old self.new (files_at (F.shelf files.old) (F.faults files.old)) (files_at (F.shelf files.new) (F.faults files.new)) }
         ensures lower { OnOk result (Shrinks 1 (F.shelf files.old) self.old (F.shelf files.new) self.new) }
+        ensures begun { self.new.begun ≡ self.old.begun }
         ensures within { IfOk result (TokenWithin (length self.new.names)) }
     {
         match self.take_front(files)? {
@@ -434,7 +435,7 @@ impl Engine {
         requires short { (texts : Table) → D.judge feeder.old texts [] ≡ TooShort }
         ensures feeds { FeedsTold (D.judge feeder.old) (state_of (F.shelf files.old) self.old) (F.shelf files.old) result self.new.names (state_of (F.shelf files.new) self.new) }
         ensures runs { Runs result self.old self.new (files_at (F.shelf files.old) (F.faults files.old)) (files_at (F.shelf files.new) (F.faults files.new)) }
-        ensures lower { IfOk result (λ v. Fed (D.judge feeder.old) v (F.shelf files.old) self.old (F.shelf files.new) self.new) }
+        ensures lower { IfOk result (λ v. FedBy (D.judge feeder.old) v (F.shelf files.old) self.old (F.shelf files.new) self.new) }
     {
         'tokens: loop {
             let token = self.inner_token(files)?;

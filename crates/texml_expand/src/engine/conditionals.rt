@@ -7,7 +7,7 @@ ghost use Rattle.texml_scope.specs.Numbers.{meaning_at};
 ghost use Rattle.texml_scope.specs.Equality.{meaning_eq};
 ghost use Rattle.texml_expand.specs.Take.{means};
 ghost use Rattle.texml_expand.specs.Expand.{level};
-ghost use Rattle.texml_expand.specs.Fronts.{inner_passed, fixed as FIXED};
+ghost use Rattle.texml_expand.specs.Fronts.{inner_passed, fixed as FIXED, SkipsToken};
 ghost use Rattle.texml_expand.specs.Conditionals.{open_test as spec_open_test, face as spec_face, face_of as spec_face_of, frozen_face as spec_frozen_face, first_code as spec_first_code, word_comes as spec_word_comes, next_face as spec_next_face, two_faces as spec_two_faces, same_meanings as spec_same_meanings, compares as spec_compares, amount as spec_amount, relation as spec_relation, compared as spec_compared, is_odd as spec_is_odd, tested as spec_tested, skipped as spec_skipped, seek as spec_seek, chosen as spec_chosen, conditional as spec_conditional, part_end as spec_part_end};
 ghost use Rattle.texml_expand.specs.Fronts.{gift_at, GiftWithin};
 ghost use Rattle.texml_expand.specs.Held.{world_in, Sound, Kept, Progress, IsAtLimit, ok_at, read_at, Owns, SameFiles, Shrinks};
@@ -347,16 +347,23 @@ impl Engine {
         let mut skip = Skip::new();
         'tokens: loop {
             let token = self.inner_token(files)?;
-            let meaning = match self.means(token) {
-                Ok(meaning) => meaning,
+            match self.skip_token(&mut skip, token) {
+                Ok(SkipStep::More) => {}
+                Ok(SkipStep::Reached(word)) => return Ok(word),
+                Ok(SkipStep::TooDeep) => return Err(self.bare_fault(fault_code::DEPTH)),
                 Err(_) => return Err(self.no_memory()),
-            };
-            match skip.feed(&meaning) {
-                SkipStep::More => {}
-                SkipStep::Reached(word) => return Ok(word),
-                SkipStep::TooDeep => return Err(self.bare_fault(fault_code::DEPTH)),
             }
         }
+    }
+
+    // What a token decides in skipped text.
+    fn skip_token(&self, skip: &mut Skip, token: Token) -> Result<SkipStep, AllocError>
+        requires sound { Sound self.now }
+        requires token { TokenWithin (length self.now.names) token }
+        ensures { IfOk result (λ step. SkipsToken self.now.names (means (world_in self.now) (token_at self.now.names token)) skip.old step skip.new) }
+    {
+        let meaning = self.means(token)?;
+        Ok(skip.feed(&meaning))
     }
 
     // A word that comes by itself: where it may, the conditional goes on behind its end, or is closed; while a test is read, the

@@ -227,7 +227,7 @@ impl Engine {
         requires running { self.old.stop ≡ None }
         requires sound { Sound self.old }
         requires token { TokenWithin (length self.old.names) read.token }
-        ensures judges { Local (front_taken (Some (read_at self.old.names read))) (ok_at (front_at self.old.names) result) self.old self.old }
+        ensures judges { Local (front_taken (Some (read_at self.old.names read))) (ok_at (front_at self.old.names) result) self.old self.new }
         ensures kept { self.new.stop ≡ stop_after result }
         ensures same { OnOk result (self.new ≡ self.old) }
         ensures progress { Progress self.old self.new }

@@ -1,7 +1,7 @@
-use Rattle.std.proofs.Common.{[], FitsSigned, w32, refl, sym, ap, subst, ◌∙◌, rules, pos, true, false, None, Some, Ok, Err, ◌∷◌, List, ◌≡◌}
+use Rattle.std.proofs.Common.{arith, [], FitsSigned, w32, refl, sym, ap, subst, ◌∙◌, rules, pos, true, false, None, Some, Ok, Err, ◌∷◌, List, ◌≡◌}
 use Rattle.std.specs.Fmt.{signed_decimal}
 use Rattle.std.proofs.lemmas.Int.{to_z-of_z}
-use Rattle.texml_expand.specs.Contract.{Silent}
+use Rattle.texml_expand.specs.Contract.{outside, Local}
 use Rattle.texml_token.specs.Numbers.{Extends, token_at, tokens_at}
 use Rattle.texml_token.proofs.Translation.{token_kept}
 use Rattle.texml_expand.specs.Held.{Held, state_of, ok_at, read_at}
@@ -12,19 +12,19 @@ use Rattle.texml_expand.specs.Calls.{Call}
 use Rattle.texml_expand.specs.Printed.{printed_tokens, roman_text}
 use Rattle.texml_expand.specs.Variables.{a_character, a_register, key_of, index_of, Number, value_of}
 use Rattle.texml_expand.specs.Quantities.{int_text, read_index, look, read_key, internal_of, internal, as_itself, shown}
-use Rattle.texml_expand.specs.Expand.{given, level}
+use Rattle.texml_expand.specs.Expand.{front, given, level}
 use Rattle.texml_expand.specs.Hearing.{hears, hears_part}
 use Rattle.texml_expand.proofs.Lawful.{lawful_give, lawful_scan, lawful_fetch}
 use Rattle.texml_expand.proofs.Looking.{lawful_character, lawful_register, value, lawful_value, lawful_index, lawful_look, lawful_key, lawful_internal_of, lawful_internal, counts, lawful_counts, lawful_take, shown_now, lawful_shown_now}
 use Rattle.texml_expand.proofs.Levels.{lawful_given}
-use Rattle.texml_expand.proofs.Doing.{by_new, did_silent, does_silent, does_as, does_now, does_stop, does_then, does_out, does_fault, did_out, does_lower}
+use Rattle.texml_expand.proofs.Doing.{by_new, did_silent, did_gets, does_silent, does_gets, does_as, does_now, does_stop, does_then, does_out, does_fault, did_out}
 use Rattle.texml_expand.proofs.Rounds.{index_as, front_did, given_as, begins_did, finish_did, expand_stops, expand_ungiven, expand_ends, fetch_stops, fetch_ends, fetch_plain, fetching_on, fetch_unexpanded, looked_as}
 use Rattle.texml_scope.specs.Numbers.{key_at, meaning_at}
 use Rattle.texml_expand.specs.VariableCodes.{internal_at}
 use Rattle.texml_expand.specs.declared.machine.Value.TheVariants as worths
 use Rattle.texml_expand.specs.declared.machine.Machine.TheVariants as machines
 use Rattle.texml_expand.specs.Machine.{machine_rest, scanned_as, mapped}
-use Rattle.texml_expand.proofs.Looks.{scalar_signed, not_internal, no_value, key_same, look_now, look_stops, look_done, look_behind, look_at, scan_stops, scan_unseen, scan_decides, scan_ends, scanning_on, scan_does}
+use Rattle.texml_expand.proofs.Looks.{scalar_signed, not_internal, no_value, key_same, look_now, look_stops, look_done, look_behind, look_at, scan_stops, scan_unseen, scan_decides, scan_ends, scanning_on, scan_does, scanned_shrinks, decided_gives, end_gives}
 use Rattle.std.specs.Option.{option_map}
 use Rattle.texml_token.specs.declared.fault_code.TheConstants.{MISSING_NUMBER}
 use Rattle.texml_expand.specs.Take.{take}
@@ -34,43 +34,46 @@ use Rattle.texml_expand.proofs.Progress.{progress_itself}
 use Rattle.texml_expand.proofs.Fronts.{kept_itself}
 use Rattle.texml_scan.specs.Looked.{look_of}
 use Rattle.texml_scan.specs.declared.looks.Held.TheVariants.{Nothing}
-use Rattle.texml_expand.proofs.Leading.{lower_none}
+use Rattle.texml_expand.proofs.Running.{shrinks_none, shrinks_then, files_same}
 use Rattle.texml_expand.proofs.Showing.{the_stops, the_ends, the_behind, shown_stops, shown_then}
 use Rattle.texml_scan.specs.declared.looks.Look.{Look}
 use Rattle.texml_scan.specs.Grammar.{verdict}
-use Rattle.texml_expand.proofs.Worth.{scan_stop, scan_value, scan_of, int_same}
+use Rattle.texml_expand.proofs.Worth.{scan_stop, scan_of, scan_gives, gives_of, int_same}
 use Rattle.texml_expand.proofs.engine.Engine.+expanding.Goals as goal
 
 pub expand-returns-clause-does : goal.expand-returns-clause-does
 expand-returns-clause-does g t c =
     let T = g.T.Teller in
+    let F = g.F.Files in
     let b = c.in_ok-begin.ensures in
     let l = c.in_ok-list.ensures in
     let e = c.finish.ensures in
     let mine = c.args.self.now in
     let now = c.given.new.self in
-    let d = begins_did (hears T.wanting T.heard) (hears_part T.wanting T.part) _ mine c.begin.new.self (T.faults c.args.tell.now) c.args.tell.now c.requires.sound b.begins b.kept b.is b.within b.limit b.progress in
+    let d = begins_did (hears T.wanting T.heard) (hears_part T.wanting T.part) _ mine c.begin.new.self (outside (F.shelf c.args.files.now) (F.faults c.args.files.now) (T.faults c.args.tell.now) (T.loan c.args.tell.now)) c.args.tell.now c.requires.sound b.begins b.kept b.is b.within b.limit b.progress b.files c.requires.owns in
     let same = ap (λ (h : Held). expandable_at h.names c.args.found) (sym b.is) in
     let k = given_as (hears T.wanting T.heard) (hears_part T.wanting T.part) _ (expandable_at mine.names c.args.found) _ _ _ _ _ _ _ same l.does in
     let names = subst (λ (h : Held). Extends h.names now.names) b.is l.does.progress.names in
-    let u = finish_did (hears T.wanting T.heard) (hears_part T.wanting T.part) (token_at mine.names c.args.token) _ c.in_ok-list.list _ now _ _ _ _ _ l.does.keeps.sound l.within (token_kept mine.names now.names names c.args.token c.requires.token) e.finishes e.stops e.is e.limit e.progress in
+    let u = finish_did (hears T.wanting T.heard) (hears_part T.wanting T.part) (token_at mine.names c.args.token) _ c.in_ok-list.list _ now c.finish.new.self _ _ _ _ _ _ _ _ l.does.keeps.sound l.within (token_kept mine.names now.names names c.args.token c.requires.token) e.finishes e.stops e.is e.limit e.progress e.files l.does.holds.owns in
     expand_ends (hears T.wanting T.heard) (hears_part T.wanting T.part) (token_at mine.names c.args.token) (expandable_at mine.names c.args.found) _ _ _ _ _ _ _ _ _ _ _ _ d k u
 
 pub expand-returns-in_err-begin-clause-does : goal.expand-returns-in_err-begin-clause-does
 expand-returns-in_err-begin-clause-does g t c =
     let T = g.T.Teller in
+    let F = g.F.Files in
     let b = c.in_err-begin.ensures in
     let mine = c.args.self.now in
-    let d = begins_did (hears T.wanting T.heard) (hears_part T.wanting T.part) _ mine c.begin.new.self (T.faults c.args.tell.now) c.args.tell.now c.requires.sound b.begins b.kept tt tt b.limit b.progress in
+    let d = begins_did (hears T.wanting T.heard) (hears_part T.wanting T.part) _ mine c.begin.new.self (outside (F.shelf c.args.files.now) (F.faults c.args.files.now) (T.faults c.args.tell.now) (T.loan c.args.tell.now)) c.args.tell.now c.requires.sound b.begins b.kept tt tt b.limit b.progress b.files c.requires.owns in
     let h = expand_stops (hears T.wanting T.heard) (hears_part T.wanting T.part) (token_at mine.names c.args.token) (expandable_at mine.names c.args.found) _ _ _ _ _ d in
     search (rules, h)
 
 pub expand-returns-in_err-list-clause-does : goal.expand-returns-in_err-list-clause-does
 expand-returns-in_err-list-clause-does g t c =
     let T = g.T.Teller in
+    let F = g.F.Files in
     let b = c.in_ok-begin.ensures in
     let mine = c.args.self.now in
-    let d = begins_did (hears T.wanting T.heard) (hears_part T.wanting T.part) _ mine c.begin.new.self (T.faults c.args.tell.now) c.args.tell.now c.requires.sound b.begins b.kept b.is b.within b.limit b.progress in
+    let d = begins_did (hears T.wanting T.heard) (hears_part T.wanting T.part) _ mine c.begin.new.self (outside (F.shelf c.args.files.now) (F.faults c.args.files.now) (T.faults c.args.tell.now) (T.loan c.args.tell.now)) c.args.tell.now c.requires.sound b.begins b.kept b.is b.within b.limit b.progress b.files c.requires.owns in
     let same = ap (λ (h : Held). expandable_at h.names c.args.found) (sym b.is) in
     let k = given_as (hears T.wanting T.heard) (hears_part T.wanting T.part) _ (expandable_at mine.names c.args.found) _ _ _ _ _ _ _ same c.in_err-list.ensures.does in
     let h = expand_ungiven (hears T.wanting T.heard) (hears_part T.wanting T.part) (token_at mine.names c.args.token) (expandable_at mine.names c.args.found) _ _ _ _ _ _ _ _ d k in
@@ -79,54 +82,57 @@ expand-returns-in_err-list-clause-does g t c =
 pub fetch_on-fronts-preserved : goal.fetch_on-fronts-preserved
 fetch_on-fronts-preserved g t c =
     let T = g.T.Teller in
+    let F = g.F.Files in
     let e = c.in_ok-front.ensures in
-    let d = front_did (hears T.wanting T.heard) (hears_part T.wanting T.part) _ _ c.fronts.self c.front.new.self (T.faults c.fronts.tell) c.fronts.tell c.in-Expands.is e.fronts e.kept e.keeps e.progress in
+    let d = front_did (hears T.wanting T.heard) (hears_part T.wanting T.part) _ _ c.fronts.self c.front.new.self _ _ _ _ (T.faults c.fronts.tell) (T.loan c.fronts.tell) c.fronts.tell c.in-Expands.is e.gets in
     let x = c.in_ok-expand-in-Expands.ensures in
-    fetching_on (hears T.wanting T.heard) (hears_part T.wanting T.part) _ _ _ _ _ _ _ _ _ _ _ _ c.fronts.invariant d (rw c.in-Expands.is at e.lower) x.does x.begins
+    fetching_on (hears T.wanting T.heard) (hears_part T.wanting T.part) _ _ _ _ _ _ _ _ _ _ _ _ _ c.fronts.invariant d (rw c.in-Expands.is at e.lower) x.does x.begins
 
 pub fetch_on-returns-in-Nothing-clause-does : goal.fetch_on-returns-in-Nothing-clause-does
 fetch_on-returns-in-Nothing-clause-does g t c =
     let T = g.T.Teller in
+    let F = g.F.Files in
     let e = c.in_ok-front.ensures in
-    let d = front_did (hears T.wanting T.heard) (hears_part T.wanting T.part) _ _ c.fronts.self c.front.new.self (T.faults c.fronts.tell) c.fronts.tell c.in-Nothing.is e.fronts e.kept e.keeps e.progress in
-    fetch_ends (hears T.wanting T.heard) (hears_part T.wanting T.part) _ _ _ _ _ _ _ c.fronts.invariant d
+    let d = front_did (hears T.wanting T.heard) (hears_part T.wanting T.part) _ _ c.fronts.self c.front.new.self _ _ _ _ (T.faults c.fronts.tell) (T.loan c.fronts.tell) c.fronts.tell c.in-Nothing.is e.gets in
+    fetch_ends (hears T.wanting T.heard) (hears_part T.wanting T.part) _ _ _ _ _ _ _ _ c.fronts.invariant d
 
 pub fetch_on-returns-in-Plain-clause-does : goal.fetch_on-returns-in-Plain-clause-does
 fetch_on-returns-in-Plain-clause-does g t c =
     let T = g.T.Teller in
+    let F = g.F.Files in
     let e = c.in_ok-front.ensures in
-    let d = front_did (hears T.wanting T.heard) (hears_part T.wanting T.part) _ _ c.fronts.self c.front.new.self (T.faults c.fronts.tell) c.fronts.tell c.in-Plain.is e.fronts e.kept e.keeps e.progress in
-    fetch_plain (hears T.wanting T.heard) (hears_part T.wanting T.part) (read_at c.front.new.self.names c.in-Plain.read) _ _ _ _ _ _ _ c.fronts.invariant d
+    let d = front_did (hears T.wanting T.heard) (hears_part T.wanting T.part) _ _ c.fronts.self c.front.new.self _ _ _ _ (T.faults c.fronts.tell) (T.loan c.fronts.tell) c.fronts.tell c.in-Plain.is e.gets in
+    fetch_plain (hears T.wanting T.heard) (hears_part T.wanting T.part) (read_at c.front.new.self.names c.in-Plain.read) _ _ _ _ _ _ _ _ c.fronts.invariant d
 
 pub fetch_on-returns-in_err-expand-in-Expands-clause-does : goal.fetch_on-returns-in_err-expand-in-Expands-clause-does
 fetch_on-returns-in_err-expand-in-Expands-clause-does g t c =
     let T = g.T.Teller in
+    let F = g.F.Files in
     let e = c.in_ok-front.ensures in
-    let d = front_did (hears T.wanting T.heard) (hears_part T.wanting T.part) _ _ c.fronts.self c.front.new.self (T.faults c.fronts.tell) c.fronts.tell c.in-Expands.is e.fronts e.kept e.keeps e.progress in
-    let h = fetch_unexpanded (hears T.wanting T.heard) (hears_part T.wanting T.part) _ _ _ _ _ _ _ _ _ _ _ _ _ c.fronts.invariant d c.in_err-expand-in-Expands.ensures.does in
+    let d = front_did (hears T.wanting T.heard) (hears_part T.wanting T.part) _ _ c.fronts.self c.front.new.self _ _ _ _ (T.faults c.fronts.tell) (T.loan c.fronts.tell) c.fronts.tell c.in-Expands.is e.gets in
+    let h = fetch_unexpanded (hears T.wanting T.heard) (hears_part T.wanting T.part) _ _ _ _ _ _ _ _ _ _ _ _ _ _ c.fronts.invariant d c.in_err-expand-in-Expands.ensures.does in
     search (rules, h)
 
 pub fetch_on-returns-in_err-front-clause-does : goal.fetch_on-returns-in_err-front-clause-does
 fetch_on-returns-in_err-front-clause-does g t c =
     let T = g.T.Teller in
+    let F = g.F.Files in
     let e = c.in_err-front.ensures in
-    let d = did_silent (hears T.wanting T.heard) (hears_part T.wanting T.part) _ _ c.fronts.self c.front.new.self (T.faults c.fronts.tell) c.fronts.tell e.fronts e.kept e.limit tt e.progress in
-    let h = fetch_stops (hears T.wanting T.heard) (hears_part T.wanting T.part) _ _ _ _ _ _ _ _ c.fronts.invariant d in
+    let d = did_gets (hears T.wanting T.heard) (hears_part T.wanting T.part) front _ c.fronts.self c.front.new.self _ _ _ _ (T.faults c.fronts.tell) (T.loan c.fronts.tell) c.fronts.tell e.gets in
+    let h = fetch_stops (hears T.wanting T.heard) (hears_part T.wanting T.part) _ _ _ _ _ _ _ _ _ c.fronts.invariant d in
     search (rules, h)
 
 pub given-returns-in-Call-clause-does : goal.given-returns-in-Call-clause-does
 given-returns-in-Call-clause-does g t c =
     let T = g.T.Teller in
-    let e = c.called.ensures in
-    let mine = c.args.self.now in
-    let new = c.called.new.self in
-    let m = macro_at mine.names c.in-Call.found in
-    let d = does_as (hears T.wanting T.heard) (hears_part T.wanting T.part) (tokens_at new.names) (λ c. given c (Call m)) (lawful_given (Call m)) c.called.result mine new (T.faults c.args.tell.now) c.args.tell.now e.gives e.kept e.limit e.keeps e.progress in
+    let m = macro_at c.args.self.now.names c.in-Call.found in
+    let d = does_gets (hears T.wanting T.heard) (hears_part T.wanting T.part) (λ c. given c (Call m)) (lawful_given (Call m)) _ c.args.self.now c.called.new.self _ _ _ _ (T.faults c.args.tell.now) (T.loan c.args.tell.now) c.args.tell.now c.called.ensures.gets in
     rw c.in-Call.is d
 
 pub given-returns-in_err-value-in-Number-clause-does : goal.given-returns-in_err-value-in-Number-clause-does
 given-returns-in_err-value-in-Number-clause-does g t c =
     let T = g.T.Teller in
+    let F = g.F.Files in
     let d = does_stop (hears T.wanting T.heard) (hears_part T.wanting T.part) (λ c. c.scan int_text []) (λ i c. give (printed_tokens (signed_decimal i))) (lawful_scan int_text) (λ i. lawful_give (printed_tokens (signed_decimal i))) _ _ _ _ _ _ _ c.in_err-value-in-Number.ensures.does in
     let h = given_as (hears T.wanting T.heard) (hears_part T.wanting T.part) _ (expandable_at c.args.self.now.names c.args.found) _ _ _ _ _ _ _ (ap (expandable_at c.args.self.now.names) c.in-Number.is) d in
     search (rules, h)
@@ -134,6 +140,7 @@ given-returns-in_err-value-in-Number-clause-does g t c =
 pub given-returns-in_err-value-in-RomanNumeral-clause-does : goal.given-returns-in_err-value-in-RomanNumeral-clause-does
 given-returns-in_err-value-in-RomanNumeral-clause-does g t c =
     let T = g.T.Teller in
+    let F = g.F.Files in
     let d = does_stop (hears T.wanting T.heard) (hears_part T.wanting T.part) (λ c. c.scan int_text []) (λ i c. give (printed_tokens (roman_text i))) (lawful_scan int_text) (λ i. lawful_give (printed_tokens (roman_text i))) _ _ _ _ _ _ _ c.in_err-value-in-RomanNumeral.ensures.does in
     let h = given_as (hears T.wanting T.heard) (hears_part T.wanting T.part) _ (expandable_at c.args.self.now.names c.args.found) _ _ _ _ _ _ _ (ap (expandable_at c.args.self.now.names) c.in-RomanNumeral.is) d in
     search (rules, h)
@@ -141,35 +148,41 @@ given-returns-in_err-value-in-RomanNumeral-clause-does g t c =
 pub given-returns-in_ok-value-in-Number-clause-does : goal.given-returns-in_ok-value-in-Number-clause-does
 given-returns-in_ok-value-in-Number-clause-does g t c =
     let T = g.T.Teller in
+    let F = g.F.Files in
     let e = c.number.ensures in
     let mid = c.int.new.self in
     let new = c.number.new.self in
     let tell = c.int.new.tell in
+    let files = c.int.new.files in
     let i = c.in_ok-value-in-Number.value in
     let fits : FitsSigned w32 i = search rules in
-    let d = does_as (hears T.wanting T.heard) (hears_part T.wanting T.part) (tokens_at new.names) (λ c. give (printed_tokens (signed_decimal i))) (lawful_give (printed_tokens (signed_decimal i))) c.number.result mid new (T.faults tell) tell (by_new tokens_at _ _ mid new (subst (λ z. Silent (give (printed_tokens (signed_decimal z)) (state_of mid)) (ok_at (tokens_at mid.names) c.number.result) (state_of new)) (to_z-of_z w32 i fits) e.writes) e.same) e.kept e.limit e.keeps e.progress in
+    let d = does_as (hears T.wanting T.heard) (hears_part T.wanting T.part) (tokens_at new.names) (λ c. give (printed_tokens (signed_decimal i))) (lawful_give (printed_tokens (signed_decimal i))) c.number.result mid new (outside (F.shelf files) (F.faults files) (T.faults tell) (T.loan tell)) tell (by_new tokens_at _ _ mid new (subst (λ z. Local (give (printed_tokens (signed_decimal z))) (ok_at (tokens_at mid.names) c.number.result) mid new) (to_z-of_z w32 i fits) e.writes) e.same) e.kept e.limit e.keeps e.progress e.files c.in_ok-value-in-Number.ensures.does.holds.owns in
     rw c.in-Number.is (does_then (hears T.wanting T.heard) (hears_part T.wanting T.part) (λ c. c.scan int_text []) (λ i c. give (printed_tokens (signed_decimal i))) (lawful_scan int_text) (λ i. lawful_give (printed_tokens (signed_decimal i))) i _ _ _ _ _ _ _ _ _ _ c.in_ok-value-in-Number.ensures.does d)
 
 pub given-returns-in_ok-value-in-RomanNumeral-clause-does : goal.given-returns-in_ok-value-in-RomanNumeral-clause-does
 given-returns-in_ok-value-in-RomanNumeral-clause-does g t c =
     let T = g.T.Teller in
+    let F = g.F.Files in
     let e = c.roman_numeral.ensures in
     let mid = c.int-in-RomanNumeral.new.self in
     let new = c.roman_numeral.new.self in
     let tell = c.int-in-RomanNumeral.new.tell in
+    let files = c.int-in-RomanNumeral.new.files in
     let i = c.in_ok-value-in-RomanNumeral.value in
     let fits : FitsSigned w32 i = search rules in
-    let d = does_as (hears T.wanting T.heard) (hears_part T.wanting T.part) (tokens_at new.names) (λ c. give (printed_tokens (roman_text i))) (lawful_give (printed_tokens (roman_text i))) c.roman_numeral.result mid new (T.faults tell) tell (by_new tokens_at _ _ mid new (subst (λ z. Silent (give (printed_tokens (roman_text z)) (state_of mid)) (ok_at (tokens_at mid.names) c.roman_numeral.result) (state_of new)) (to_z-of_z w32 i fits) e.writes) e.same) e.kept e.limit e.keeps e.progress in
+    let d = does_as (hears T.wanting T.heard) (hears_part T.wanting T.part) (tokens_at new.names) (λ c. give (printed_tokens (roman_text i))) (lawful_give (printed_tokens (roman_text i))) c.roman_numeral.result mid new (outside (F.shelf files) (F.faults files) (T.faults tell) (T.loan tell)) tell (by_new tokens_at _ _ mid new (subst (λ z. Local (give (printed_tokens (roman_text z))) (ok_at (tokens_at mid.names) c.roman_numeral.result) mid new) (to_z-of_z w32 i fits) e.writes) e.same) e.kept e.limit e.keeps e.progress e.files c.in_ok-value-in-RomanNumeral.ensures.does.holds.owns in
     rw c.in-RomanNumeral.is (does_then (hears T.wanting T.heard) (hears_part T.wanting T.part) (λ c. c.scan int_text []) (λ i c. give (printed_tokens (roman_text i))) (lawful_scan int_text) (λ i. lawful_give (printed_tokens (roman_text i))) i _ _ _ _ _ _ _ _ _ _ c.in_ok-value-in-RomanNumeral.ensures.does d)
 
 pub index-returns-in-Alone-clause-does : goal.index-returns-in-Alone-clause-does
 index-returns-in-Alone-clause-does g t c =
     let T = g.T.Teller in
-    rw c.in-Alone.is (does_now (hears T.wanting T.heard) (hears_part T.wanting T.part) 0 c.args.self.now (T.faults c.args.tell.now) c.args.tell.now c.requires.sound c.requires.running)
+    let F = g.F.Files in
+    rw c.in-Alone.is (does_now (hears T.wanting T.heard) (hears_part T.wanting T.part) 0 c.args.self.now (outside (F.shelf c.args.files.now) (F.faults c.args.files.now) (T.faults c.args.tell.now) (T.loan c.args.tell.now)) c.args.tell.now c.requires.sound c.requires.running c.requires.owns)
 
 pub index-returns-in_err-number-in-Character-clause-does : goal.index-returns-in_err-number-in-Character-clause-does
 index-returns-in_err-number-in-Character-clause-does g t c =
     let T = g.T.Teller in
+    let F = g.F.Files in
     let d = does_stop (hears T.wanting T.heard) (hears_part T.wanting T.part) (λ c. c.scan int_text []) (λ i c. a_character i) (lawful_scan int_text) lawful_character _ _ _ _ _ _ _ c.in_err-number-in-Character.ensures.does in
     let h = index_as (hears T.wanting T.heard) (hears_part T.wanting T.part) Character c.args.index _ _ _ _ _ _ _ c.in-Character.is d in
     search (rules, h)
@@ -177,6 +190,7 @@ index-returns-in_err-number-in-Character-clause-does g t c =
 pub index-returns-in_err-number-in-Register-clause-does : goal.index-returns-in_err-number-in-Register-clause-does
 index-returns-in_err-number-in-Register-clause-does g t c =
     let T = g.T.Teller in
+    let F = g.F.Files in
     let d = does_stop (hears T.wanting T.heard) (hears_part T.wanting T.part) (λ c. c.scan int_text []) (λ i c. a_register i) (lawful_scan int_text) lawful_register _ _ _ _ _ _ _ c.in_err-number-in-Register.ensures.does in
     let h = index_as (hears T.wanting T.heard) (hears_part T.wanting T.part) Register c.args.index _ _ _ _ _ _ _ c.in-Register.is d in
     search (rules, h)
@@ -184,25 +198,29 @@ index-returns-in_err-number-in-Register-clause-does g t c =
 pub index-returns-in_ok-number-in-Character-clause-does : goal.index-returns-in_ok-number-in-Character-clause-does
 index-returns-in_ok-number-in-Character-clause-does g t c =
     let T = g.T.Teller in
+    let F = g.F.Files in
     let e = c.character.ensures in
     let mid = c.int.new.self in
     let new = c.character.new.self in
     let tell = c.int.new.tell in
+    let files = c.int.new.files in
     let i = c.in_ok-number-in-Character.number in
     let fits : FitsSigned w32 i = search rules in
-    let d = does_silent (hears T.wanting T.heard) (hears_part T.wanting T.part) (λ c. a_character i) (lawful_character i) c.character.result mid new (T.faults tell) tell (subst (λ z. Silent (a_character z (state_of mid)) c.character.result (state_of new)) (to_z-of_z w32 i fits) e.is) e.kept e.limit e.keeps e.progress in
+    let d = does_silent (hears T.wanting T.heard) (hears_part T.wanting T.part) (λ c. a_character i) (lawful_character i) c.character.result mid new (outside (F.shelf files) (F.faults files) (T.faults tell) (T.loan tell)) tell (subst (λ z. Local (a_character z) c.character.result mid new) (to_z-of_z w32 i fits) e.is (F.shelf files)) e.kept e.limit e.keeps e.progress e.files c.in_ok-number-in-Character.ensures.does.holds.owns in
     rw c.in-Character.is (does_then (hears T.wanting T.heard) (hears_part T.wanting T.part) (λ c. c.scan int_text []) (λ i c. a_character i) (lawful_scan int_text) lawful_character i _ _ _ _ _ _ _ _ _ _ c.in_ok-number-in-Character.ensures.does d)
 
 pub index-returns-in_ok-number-in-Register-clause-does : goal.index-returns-in_ok-number-in-Register-clause-does
 index-returns-in_ok-number-in-Register-clause-does g t c =
     let T = g.T.Teller in
+    let F = g.F.Files in
     let e = c.register.ensures in
     let mid = c.int-in-Register.new.self in
     let new = c.register.new.self in
     let tell = c.int-in-Register.new.tell in
+    let files = c.int-in-Register.new.files in
     let i = c.in_ok-number-in-Register.number in
     let fits : FitsSigned w32 i = search rules in
-    let d = does_silent (hears T.wanting T.heard) (hears_part T.wanting T.part) (λ c. a_register i) (lawful_register i) c.register.result mid new (T.faults tell) tell (subst (λ z. Silent (a_register z (state_of mid)) c.register.result (state_of new)) (to_z-of_z w32 i fits) e.is) e.kept e.limit e.keeps e.progress in
+    let d = does_silent (hears T.wanting T.heard) (hears_part T.wanting T.part) (λ c. a_register i) (lawful_register i) c.register.result mid new (outside (F.shelf files) (F.faults files) (T.faults tell) (T.loan tell)) tell (subst (λ z. Local (a_register z) c.register.result mid new) (to_z-of_z w32 i fits) e.is (F.shelf files)) e.kept e.limit e.keeps e.progress e.files c.in_ok-number-in-Register.ensures.does.holds.owns in
     rw c.in-Register.is (does_then (hears T.wanting T.heard) (hears_part T.wanting T.part) (λ c. c.scan int_text []) (λ i c. a_register i) (lawful_scan int_text) lawful_register i _ _ _ _ _ _ _ _ _ _ c.in_ok-number-in-Register.ensures.does d)
 
 pub int-returns-clause-does : goal.int-returns-clause-does
@@ -211,6 +229,14 @@ int-returns-clause-does g t c =
     let i = c.in-Int.value in
     let fits : FitsSigned w32 i = search rules in
     let h = scan_of _ _ worths.Int (machine_rest (machines.Int c.new.result)) int_text same i c.in_ok-value.field-0 _ _ _ _ _ _ c.in-Int.is int_same c.in_ok-value.ensures.does in
+    rw (to_z-of_z w32 i fits) h
+
+pub int-returns-clause-gives : goal.int-returns-clause-gives
+int-returns-clause-gives g t c =
+    let same : (xs : List Look) → machine_rest (machines.Int c.new.result) xs ≡ mapped worths.Int (int_text xs) = λ xs. ap (λ r. mapped worths.Int (verdict r)) (c.new.ensures xs) in
+    let i = c.in-Int.value in
+    let fits : FitsSigned w32 i = search rules in
+    let h = gives_of worths.Int (machine_rest (machines.Int c.new.result)) int_text same i c.in_ok-value.field-0 c.in-Int.is int_same c.in_ok-value.ensures.gives in
     rw (to_z-of_z w32 i fits) h
 
 pub int-returns-in_err-value-clause-does : goal.int-returns-in_err-value-clause-does
@@ -222,7 +248,7 @@ int-returns-in_err-value-clause-does g t c =
 pub int-unreachable-requires : goal.int-unreachable-requires
 int-unreachable-requires g t c =
     let same : (xs : List Look) → machine_rest (machines.Int c.new.result) xs ≡ mapped worths.Int (int_text xs) = λ xs. ap (λ r. mapped worths.Int (verdict r)) (c.new.ensures xs) in
-    let h = scan_value _ _ worths.Int (machine_rest (machines.Int c.new.result)) int_text same _ _ _ _ _ _ _ c.in_ok-value.ensures.does in
+    let h = scan_gives worths.Int (machine_rest (machines.Int c.new.result)) int_text same _ c.in_ok-value.ensures.gives in
     c.in_default.not-Int h.value h.is
 
 pub internal-returns-in-Builtin-clause-does : goal.internal-returns-in-Builtin-clause-does
@@ -232,70 +258,79 @@ internal-returns-in-Builtin-clause-does g t c =
 pub internal-returns-in-Number-clause-does : goal.internal-returns-in-Number-clause-does
 internal-returns-in-Number-clause-does g t c =
     let T = g.T.Teller in
+    let F = g.F.Files in
     let within = rw c.in-Number.is at c.requires.meaning in
-    rw c.in-Number.is (rw (scalar_signed c.in-Number.code within) (does_now (hears T.wanting T.heard) (hears_part T.wanting T.part) (Number (pos c.in-Number.code)) c.args.self.now (T.faults c.args.tell.now) c.args.tell.now c.requires.sound c.requires.running))
+    rw c.in-Number.is (rw (scalar_signed c.in-Number.code within) (does_now (hears T.wanting T.heard) (hears_part T.wanting T.part) (Number (pos c.in-Number.code)) c.args.self.now (outside (F.shelf c.args.files.now) (F.faults c.args.files.now) (T.faults c.args.tell.now) (T.loan c.args.tell.now)) c.args.tell.now c.requires.sound c.requires.running c.requires.owns))
 
 pub internal-returns-in-Quantity-clause-does : goal.internal-returns-in-Quantity-clause-does
 internal-returns-in-Quantity-clause-does g t c =
     let T = g.T.Teller in
+    let F = g.F.Files in
     let e = c.value_of.ensures in
     let mine = c.args.self.now in
     let new = c.value_of.new.self in
     let k = key_at mine.names c.in-Quantity.key in
-    let d = does_as (hears T.wanting T.heard) (hears_part T.wanting T.part) (internal_at new.names) (value k) (lawful_value k) c.value_of.result mine new (T.faults c.args.tell.now) c.args.tell.now (by_new internal_at _ _ mine new e.values e.same) e.kept e.limit e.keeps e.progress in
+    let d = does_as (hears T.wanting T.heard) (hears_part T.wanting T.part) (internal_at new.names) (value k) (lawful_value k) c.value_of.result mine new (outside (F.shelf c.args.files.now) (F.faults c.args.files.now) (T.faults c.args.tell.now) (T.loan c.args.tell.now)) c.args.tell.now (by_new internal_at _ _ mine new e.values e.same) e.kept e.limit e.keeps e.progress e.files c.requires.owns in
     rw c.in-Quantity.is d
 
 pub internal-returns-in_default : goal.internal-returns-in_default
 internal-returns-in_default g t c =
     let T = g.T.Teller in
+    let F = g.F.Files in
     let e = c.bare_fault.ensures in
     let m = meaning_at c.args.self.now.names c.args.meaning.now in
     let n = c.in_default in
-    let is = not_internal total c.args.self.now.names c.args.meaning.now (state_of c.args.self.now) n.not-Builtin n.not-Quantity n.not-Number in
-    record { does = does_fault (hears T.wanting T.heard) (hears_part T.wanting T.part) (λ c. internal c m) (lawful_internal m) MISSING_NUMBER [] c.bare_fault.result c.args.self.now c.bare_fault.new.self (T.faults c.args.tell.now) c.args.tell.now is e.is e.kept; lower = tt; within = tt }
+    let is = not_internal total c.args.self.now.names c.args.meaning.now (state_of (F.shelf c.args.files.now) c.args.self.now) n.not-Builtin n.not-Quantity n.not-Number in
+    record { does = does_fault (hears T.wanting T.heard) (hears_part T.wanting T.part) (λ c. internal c m) (lawful_internal m) MISSING_NUMBER [] c.bare_fault.result c.args.self.now c.bare_fault.new.self (outside (F.shelf c.args.files.now) (F.faults c.args.files.now) (T.faults c.args.tell.now) (T.loan c.args.tell.now)) c.args.tell.now is e.is e.kept c.requires.owns; lower = tt; within = tt }
 
 pub internal_at-returns-clause-does : goal.internal_at-returns-clause-does
 internal_at-returns-clause-does g t c =
     let T = g.T.Teller in
+    let F = g.F.Files in
     let e = c.value_of.ensures in
     let mid = c.index.new.self in
     let new = c.value_of.new.self in
     let tell = c.index.new.tell in
+    let files = c.index.new.files in
     let v = c.in-Some.variable in
     let n = c.in_ok-number.number in
     let k = key_of v n in
     let some = sym c.variable_at.ensures ∙ c.in-Some.is in
     let i = c.in_ok-number.ensures.does in
     let index = index_as (hears T.wanting T.heard) (hears_part T.wanting T.part) _ (index_of v) _ _ _ _ _ _ _ (sym c.index_of.ensures) i in
-    let key = does_then (hears T.wanting T.heard) (hears_part T.wanting T.part) (λ c. read_index c (index_of v)) (λ n c. give (key_of v n)) (lawful_index (index_of v)) (λ n. lawful_give (key_of v n)) n _ _ _ _ _ _ _ _ _ _ index (does_now (hears T.wanting T.heard) (hears_part T.wanting T.part) k mid (T.faults tell) tell i.keeps.sound i.stops.kept) in
+    let key = does_then (hears T.wanting T.heard) (hears_part T.wanting T.part) (λ c. read_index c (index_of v)) (λ n c. give (key_of v n)) (lawful_index (index_of v)) (λ n. lawful_give (key_of v n)) n _ _ _ _ _ _ _ _ _ _ index (does_now (hears T.wanting T.heard) (hears_part T.wanting T.part) k mid (outside (F.shelf files) (F.faults files) (T.faults tell) (T.loan tell)) tell i.keeps.sound i.stops.kept i.holds.owns) in
     let same = ap (key_at mid.names) c.key_of.ensures ∙ key_same mid.names v n in
-    let values = subst (λ k. Silent (value_of k (state_of mid)) (ok_at (internal_at mid.names) c.value_of.result) (state_of new)) same e.values in
-    let d = does_as (hears T.wanting T.heard) (hears_part T.wanting T.part) (internal_at new.names) (value k) (lawful_value k) c.value_of.result mid new (T.faults tell) tell (by_new internal_at _ _ mid new values e.same) e.kept e.limit e.keeps e.progress in
+    let values = subst (λ k. Local (value_of k) (ok_at (internal_at mid.names) c.value_of.result) mid new) same e.values in
+    let d = does_as (hears T.wanting T.heard) (hears_part T.wanting T.part) (internal_at new.names) (value k) (lawful_value k) c.value_of.result mid new (outside (F.shelf files) (F.faults files) (T.faults tell) (T.loan tell)) tell (by_new internal_at _ _ mid new values e.same) e.kept e.limit e.keeps e.progress e.files i.holds.owns in
     rw some (does_then (hears T.wanting T.heard) (hears_part T.wanting T.part) (λ c. read_key c v) value (lawful_key v) lawful_value k _ _ _ _ _ _ _ _ _ _ key d)
 
 pub internal_at-returns-in_default-clause-does : goal.internal_at-returns-in_default-clause-does
 internal_at-returns-in_default-clause-does g t c =
     let T = g.T.Teller in
+    let F = g.F.Files in
     let e = c.bare_fault.ensures in
     let none = sym c.variable_at.ensures ∙ no_value c.variable_at.result c.in_default.not-Some in
-    rw none (does_fault (hears T.wanting T.heard) (hears_part T.wanting T.part) (λ c. internal_of c None) (lawful_internal_of None) MISSING_NUMBER [] c.bare_fault.result c.args.self.now c.bare_fault.new.self (T.faults c.args.tell.now) c.args.tell.now refl e.is e.kept)
+    rw none (does_fault (hears T.wanting T.heard) (hears_part T.wanting T.part) (λ c. internal_of c None) (lawful_internal_of None) MISSING_NUMBER [] c.bare_fault.result c.args.self.now c.bare_fault.new.self (outside (F.shelf c.args.files.now) (F.faults c.args.files.now) (T.faults c.args.tell.now) (T.loan c.args.tell.now)) c.args.tell.now refl e.is e.kept c.requires.owns)
 
 pub internal_at-returns-in_err-number-clause-does : goal.internal_at-returns-in_err-number-clause-does
 internal_at-returns-in_err-number-clause-does g t c =
     let T = g.T.Teller in
+    let F = g.F.Files in
     let v = c.in-Some.variable in
     let some = sym c.variable_at.ensures ∙ c.in-Some.is in
     let index = index_as (hears T.wanting T.heard) (hears_part T.wanting T.part) _ (index_of v) _ _ _ _ _ _ _ (sym c.index_of.ensures) c.in_err-number.ensures.does in
     let key = does_stop (hears T.wanting T.heard) (hears_part T.wanting T.part) (λ c. read_index c (index_of v)) (λ n c. give (key_of v n)) (lawful_index (index_of v)) (λ n. lawful_give (key_of v n)) _ _ _ _ _ _ _ index in
     let h = does_stop (hears T.wanting T.heard) (hears_part T.wanting T.part) (λ c. read_key c v) value (lawful_key v) lawful_value _ _ _ _ _ _ _ key in
-    let goal = subst (λ o. Does (hears T.wanting T.heard) (hears_part T.wanting T.part) (λ n. internal_of (level n) o) (Err c.in_err-number.field-0.0) c.args.self.now c.index.new.self (T.faults c.args.tell.now) (T.faults c.index.new.tell) c.args.tell.now c.index.new.tell) (sym some) h in
+    let goal = subst (λ o. Does (hears T.wanting T.heard) (hears_part T.wanting T.part) (λ n. internal_of (level n) o) (Err c.in_err-number.field-0.0) c.args.self.now c.index.new.self (outside (F.shelf c.args.files.now) (F.faults c.args.files.now) (T.faults c.args.tell.now) (T.loan c.args.tell.now)) (outside (F.shelf c.index.new.files) (F.faults c.index.new.files) (T.faults c.index.new.tell) (T.loan c.index.new.tell)) c.args.tell.now c.index.new.tell) (sym some) h in
     search (rules, goal)
 
 pub look_by-returns-clause-does : goal.look_by-returns-clause-does
 look_by-returns-clause-does g t c =
     let T = g.T.Teller in
+    let F = g.F.Files in
     let mine = c.args.self.now in
     let tell = c.args.tell.now in
+    let files = c.args.files.now in
     let t = token_at mine.names c.args.token in
     let m = meaning_at mine.names c.in-Ok.meaning in
     let r = machine_rest c.args.machine.now in
@@ -313,15 +348,18 @@ look_by-returns-clause-does g t c =
 pub look_by-returns-in-Err-clause-does : goal.look_by-returns-in-Err-clause-does
 look_by-returns-in-Err-clause-does g t c =
     let T = g.T.Teller in
+    let F = g.F.Files in
     let x = token_at c.args.self.now.names c.args.token in
     let r = machine_rest c.args.machine.now in
-    does_out (hears T.wanting T.heard) (hears_part T.wanting T.part) (λ c. look c r [] x) (lawful_look r [] x) c.no_memory.result c.args.self.now c.no_memory.new.self (T.faults c.args.tell.now) c.args.tell.now c.no_memory.ensures.is c.no_memory.ensures.kept
+    does_out (hears T.wanting T.heard) (hears_part T.wanting T.part) (λ c. look c r [] x) (lawful_look r [] x) c.no_memory.result c.args.self.now c.no_memory.new.self (outside (F.shelf c.args.files.now) (F.faults c.args.files.now) (T.faults c.args.tell.now) (T.loan c.args.tell.now)) c.args.tell.now c.no_memory.ensures.is c.no_memory.ensures.kept c.requires.owns
 
 pub look_by-returns-in_err-internal-clause-does : goal.look_by-returns-in_err-internal-clause-does
 look_by-returns-in_err-internal-clause-does g t c =
     let T = g.T.Teller in
+    let F = g.F.Files in
     let mine = c.args.self.now in
     let tell = c.args.tell.now in
+    let files = c.args.files.now in
     let t = token_at mine.names c.args.token in
     let m = meaning_at mine.names c.in-Ok.meaning in
     let r = machine_rest c.args.machine.now in
@@ -334,58 +372,64 @@ look_by-returns-in_err-internal-clause-does g t c =
 pub look_by-returns-then-deep-ge-DEEPEST_QUANTITY-clause-does : goal.look_by-returns-then-deep-ge-DEEPEST_QUANTITY-clause-does
 look_by-returns-then-deep-ge-DEEPEST_QUANTITY-clause-does g t c =
     let T = g.T.Teller in
+    let F = g.F.Files in
     let x = token_at c.args.self.now.names c.args.token in
     let r = machine_rest c.args.machine.now in
     let e = c.no_memory-then-deep-ge-DEEPEST_QUANTITY.ensures in
-    does_out (hears T.wanting T.heard) (hears_part T.wanting T.part) (λ c. look c r [] x) (lawful_look r [] x) c.no_memory-then-deep-ge-DEEPEST_QUANTITY.result c.args.self.now c.no_memory-then-deep-ge-DEEPEST_QUANTITY.new.self (T.faults c.args.tell.now) c.args.tell.now e.is e.kept
+    does_out (hears T.wanting T.heard) (hears_part T.wanting T.part) (λ c. look c r [] x) (lawful_look r [] x) c.no_memory-then-deep-ge-DEEPEST_QUANTITY.result c.args.self.now c.no_memory-then-deep-ge-DEEPEST_QUANTITY.new.self (outside (F.shelf c.args.files.now) (F.faults c.args.files.now) (T.faults c.args.tell.now) (T.loan c.args.tell.now)) c.args.tell.now e.is e.kept c.requires.owns
 
 pub next_looked-returns-in-None-2-clause-does : goal.next_looked-returns-in-None-2-clause-does
 next_looked-returns-in-None-2-clause-does g t c =
     let T = g.T.Teller in
+    let F = g.F.Files in
     let f = c.in_ok-read-2.ensures.does in
     let new = c.fetch_on.new.self in
     let tell = c.fetch_on.new.tell in
+    let files = c.fetch_on.new.files in
     let d = rw c.in-None-2.is at f in
-    let h = does_then (hears T.wanting T.heard) (hears_part T.wanting T.part) (λ c. c.fetch) counts lawful_fetch lawful_counts None _ _ _ _ _ _ _ _ _ _ d (does_silent (hears T.wanting T.heard) (hears_part T.wanting T.part) (counts None) (lawful_counts None) (Ok None) new new (T.faults tell) tell refl f.stops.kept tt (kept_itself new f.keeps.sound) (progress_itself new)) in
+    let h = does_then (hears T.wanting T.heard) (hears_part T.wanting T.part) (λ c. c.fetch) counts lawful_fetch lawful_counts None _ _ _ _ _ _ _ _ _ _ d (does_silent (hears T.wanting T.heard) (hears_part T.wanting T.part) (counts None) (lawful_counts None) (Ok None) new new (outside (F.shelf files) (F.faults files) (T.faults tell) (T.loan tell)) tell refl f.stops.kept tt (kept_itself new f.keeps.sound) (progress_itself new) (files_same new new refl) f.holds.owns) in
     looked_as (hears T.wanting T.heard) (hears_part T.wanting T.part) false c.args.raw _ _ _ _ _ _ _ c.if-raw.false h
 
 pub next_looked-returns-in-None-clause-does : goal.next_looked-returns-in-None-clause-does
 next_looked-returns-in-None-clause-does g t c =
     let T = g.T.Teller in
-    let e = c.in_ok-read.ensures in
+    let e = c.in_ok-read.ensures.gets in
     let new = c.take_front.new.self in
-    let takes = rw c.in-None.is at e.takes in
-    let d = does_silent (hears T.wanting T.heard) (hears_part T.wanting T.part) (λ c. take) lawful_take (Ok None) c.args.self.now new (T.faults c.args.tell.now) c.args.tell.now takes e.kept e.limit e.keeps e.progress in
-    let h = does_then (hears T.wanting T.heard) (hears_part T.wanting T.part) (λ c. take) (λ o c. give (option_map as_itself o)) lawful_take (λ o. lawful_give (option_map as_itself o)) None _ _ _ _ _ _ _ _ _ _ d (does_now (hears T.wanting T.heard) (hears_part T.wanting T.part) None new (T.faults c.args.tell.now) c.args.tell.now e.keeps.sound e.kept) in
-    (looked_as (hears T.wanting T.heard) (hears_part T.wanting T.part) true c.args.raw _ _ _ _ _ _ _ c.if-raw.true h)
+    let d = does_gets (hears T.wanting T.heard) (hears_part T.wanting T.part) (λ c. take) lawful_take (Ok None) c.args.self.now new _ _ _ _ (T.faults c.args.tell.now) (T.loan c.args.tell.now) c.args.tell.now (rw c.in-None.is at e) in
+    let h = does_then (hears T.wanting T.heard) (hears_part T.wanting T.part) (λ c. take) (λ o c. give (option_map as_itself o)) lawful_take (λ o. lawful_give (option_map as_itself o)) None _ _ _ _ _ _ _ _ _ _ d (does_now (hears T.wanting T.heard) (hears_part T.wanting T.part) None new _ c.args.tell.now e.keeps.sound e.stops.kept e.holds.owns) in
+    looked_as (hears T.wanting T.heard) (hears_part T.wanting T.part) true c.args.raw _ _ _ _ _ _ _ c.if-raw.true h
 
 pub next_looked-returns-in-Some-2-clause-does : goal.next_looked-returns-in-Some-2-clause-does
 next_looked-returns-in-Some-2-clause-does g t c =
     let T = g.T.Teller in
+    let F = g.F.Files in
     let f = c.in_ok-read-2.ensures.does in
     let e = c.counted.ensures in
     let mid = c.fetch_on.new.self in
     let new = c.counted.new.self in
     let tell = c.fetch_on.new.tell in
+    let files = c.fetch_on.new.files in
     let x = Some (read_at mid.names c.in-Some-2.read) in
     let d = rw c.in-Some-2.is at f in
-    let k = does_as (hears T.wanting T.heard) (hears_part T.wanting T.part) (option_map (looked_at new.names)) (counts x) (lawful_counts x) c.counted.result mid new (T.faults tell) tell e.counts e.kept e.limit e.keeps e.progress in
+    let k = does_as (hears T.wanting T.heard) (hears_part T.wanting T.part) (option_map (looked_at new.names)) (counts x) (lawful_counts x) c.counted.result mid new (outside (F.shelf files) (F.faults files) (T.faults tell) (T.loan tell)) tell e.counts e.kept e.limit e.keeps e.progress e.files f.holds.owns in
     let h = does_then (hears T.wanting T.heard) (hears_part T.wanting T.part) (λ c. c.fetch) counts lawful_fetch lawful_counts x _ _ _ _ _ _ _ _ _ _ d k in
     looked_as (hears T.wanting T.heard) (hears_part T.wanting T.part) false c.args.raw _ _ _ _ _ _ _ c.if-raw.false h
 
 pub next_looked-returns-in-Some-clause-does : goal.next_looked-returns-in-Some-clause-does
 next_looked-returns-in-Some-clause-does g t c =
     let T = g.T.Teller in
-    let e = c.in_ok-read.ensures in
+    let e = c.in_ok-read.ensures.gets in
     let new = c.take_front.new.self in
-    let takes = rw c.in-Some.is at e.takes in
-    let d = does_silent (hears T.wanting T.heard) (hears_part T.wanting T.part) (λ c. take) lawful_take (Ok (Some (read_at c.take_front.new.self.names c.in-Some.read))) c.args.self.now new (T.faults c.args.tell.now) c.args.tell.now takes e.kept e.limit e.keeps e.progress in
-    let h = does_then (hears T.wanting T.heard) (hears_part T.wanting T.part) (λ c. take) (λ o c. give (option_map as_itself o)) lawful_take (λ o. lawful_give (option_map as_itself o)) (Some (read_at c.take_front.new.self.names c.in-Some.read)) _ _ _ _ _ _ _ _ _ _ d (does_now (hears T.wanting T.heard) (hears_part T.wanting T.part) (Some (as_itself (read_at c.take_front.new.self.names c.in-Some.read))) new (T.faults c.args.tell.now) c.args.tell.now e.keeps.sound e.kept) in
+    let x = Some (read_at new.names c.in-Some.read) in
+    let d = does_gets (hears T.wanting T.heard) (hears_part T.wanting T.part) (λ c. take) lawful_take (Ok x) c.args.self.now new _ _ _ _ (T.faults c.args.tell.now) (T.loan c.args.tell.now) c.args.tell.now (rw c.in-Some.is at e) in
+    let h = does_then (hears T.wanting T.heard) (hears_part T.wanting T.part) (λ c. take) (λ o c. give (option_map as_itself o)) lawful_take (λ o. lawful_give (option_map as_itself o)) x _ _ _ _ _ _ _ _ _ _ d
+        (does_now (hears T.wanting T.heard) (hears_part T.wanting T.part) (option_map as_itself x) new _ c.args.tell.now e.keeps.sound e.stops.kept e.holds.owns) in
     rw c.as_itself.ensures (looked_as (hears T.wanting T.heard) (hears_part T.wanting T.part) true c.args.raw _ _ _ _ _ _ _ c.if-raw.true h)
 
 pub next_looked-returns-in_err-read-2-clause-does : goal.next_looked-returns-in_err-read-2-clause-does
 next_looked-returns-in_err-read-2-clause-does g t c =
     let T = g.T.Teller in
+    let F = g.F.Files in
     let h = does_stop (hears T.wanting T.heard) (hears_part T.wanting T.part) (λ c. c.fetch) counts lawful_fetch lawful_counts _ _ _ _ _ _ _ c.in_err-read-2.ensures.does in
     let goal = looked_as (hears T.wanting T.heard) (hears_part T.wanting T.part) false c.args.raw _ _ _ _ _ _ _ c.if-raw.false h in
     search (rules, goal)
@@ -393,8 +437,7 @@ next_looked-returns-in_err-read-2-clause-does g t c =
 pub next_looked-returns-in_err-read-clause-does : goal.next_looked-returns-in_err-read-clause-does
 next_looked-returns-in_err-read-clause-does g t c =
     let T = g.T.Teller in
-    let e = c.in_err-read.ensures in
-    let d = does_silent (hears T.wanting T.heard) (hears_part T.wanting T.part) (λ c. take) lawful_take _ c.args.self.now c.take_front.new.self (T.faults c.args.tell.now) c.args.tell.now e.takes e.kept e.limit tt e.progress in
+    let d = does_gets (hears T.wanting T.heard) (hears_part T.wanting T.part) (λ c. take) lawful_take _ c.args.self.now c.take_front.new.self _ _ _ _ (T.faults c.args.tell.now) (T.loan c.args.tell.now) c.args.tell.now c.in_err-read.ensures.gets in
     let h = does_stop (hears T.wanting T.heard) (hears_part T.wanting T.part) (λ c. take) (λ o c. give (option_map as_itself o)) lawful_take (λ o. lawful_give (option_map as_itself o)) _ _ _ _ _ _ _ d in
     let goal = looked_as (hears T.wanting T.heard) (hears_part T.wanting T.part) true c.args.raw _ _ _ _ _ _ _ c.if-raw.true h in
     search (rules, goal)
@@ -402,6 +445,7 @@ next_looked-returns-in_err-read-clause-does g t c =
 pub scan-returns-in-Err-clause-does : goal.scan-returns-in-Err-clause-does
 scan-returns-in-Err-clause-does g t c =
     let T = g.T.Teller in
+    let F = g.F.Files in
     let r = machine_rest c.args.start in
     let i = c.tokens.invariant.on in
     let some = sym c.raw.ensures ∙ c.in-Some.is in
@@ -414,11 +458,13 @@ scan-returns-in-Err-clause-does g t c =
     let on = scanning_on (hears T.wanting T.heard) (hears_part T.wanting T.part) r _ _ mid _ _ _ _ _ _ _ _ _ c.tokens.machine c.look_by.new.machine _ c.in_ok-look.next _ _ c.in-Some-2.looked c.in_ok-look.look i some d within.token lower k.does k.lower k.turned in
     let e = c.no_memory.ensures in
     let tell = c.look_by.new.tell in
-    scan_does (hears T.wanting T.heard) (hears_part T.wanting T.part) r _ _ c.look_by.new.self _ _ _ _ _ _ _ _ _ _ on (did_out (hears T.wanting T.heard) (hears_part T.wanting T.part) _ c.no_memory.result c.look_by.new.self c.no_memory.new.self (T.faults tell) tell e.is e.kept)
+    let files = c.look_by.new.files in
+    scan_does (hears T.wanting T.heard) (hears_part T.wanting T.part) r _ _ c.look_by.new.self _ _ _ _ _ _ _ _ _ _ on (did_out (hears T.wanting T.heard) (hears_part T.wanting T.part) _ c.no_memory.result c.look_by.new.self c.no_memory.new.self (outside (F.shelf files) (F.faults files) (T.faults tell) (T.loan tell)) tell e.is e.kept k.does.holds.owns)
 
 pub scan-returns-in-None-clause-does : goal.scan-returns-in-None-clause-does
 scan-returns-in-None-clause-does g t c =
     let T = g.T.Teller in
+    let F = g.F.Files in
     let r = machine_rest c.args.start in
     let i = c.tokens.invariant.on in
     let some = sym c.raw.ensures ∙ c.in-Some.is in
@@ -427,17 +473,30 @@ scan-returns-in-None-clause-does g t c =
     let mid = c.next_looked.new.self in
     let new = c.decided_on-in-None.new.self in
     let tell = c.next_looked.new.tell in
+    let files = c.next_looked.new.files in
     let decides = rw c.deref-in-None.ensures.value at e.decides in
-    let u = did_silent (hears T.wanting T.heard) (hears_part T.wanting T.part) _ c.decided_on-in-None.result mid new (T.faults tell) tell decides e.kept e.limit e.keeps e.progress in
+    let u = did_silent (hears T.wanting T.heard) (hears_part T.wanting T.part) _ c.decided_on-in-None.result mid new (outside (F.shelf files) (F.faults files) (T.faults tell) (T.loan tell)) tell (decides (F.shelf files)) e.kept e.limit e.keeps e.progress e.files d.holds.owns in
     scan_ends (hears T.wanting T.heard) (hears_part T.wanting T.part) r c.decided_on-in-None.result _ _ mid _ _ _ _ _ _ _ _ _ _ _ _ _ _ i some d c.end.ensures.is c.end.ensures.over u
 
 pub scan-returns-in-None-clause-lower : goal.scan-returns-in-None-clause-lower
 scan-returns-in-None-clause-lower g t c =
-    does_lower _ _ (λ calls. calls.scan (machine_rest c.args.start) []) (lawful_scan (machine_rest c.args.start)) _ _ _ _ _ _ _ (scan-returns-in-None-clause-does g t c)
+    let i = c.tokens.invariant.on in
+    let e = c.decided_on-in-None.ensures in
+    let low = rw c.in-None.is at c.in_ok-looked.ensures.lower in
+    let puts = rw c.deref-in-None.ensures.value at e.puts in
+    scanned_shrinks c.decided_on-in-None.result _ _ _ _ c.next_looked.new.self _ (shrinks_then _ 0 _ _ _ _ _ c.tokens.self _ i.lower low (omega arith)) puts
+
+pub scan-returns-in-None-clause-gives : goal.scan-returns-in-None-clause-gives
+scan-returns-in-None-clause-gives g t c =
+    let r = machine_rest c.args.start in
+    let i = c.tokens.invariant.on in
+    let some = sym c.raw.ensures ∙ c.in-Some.is in
+    end_gives (hears g.T.Teller.wanting g.T.Teller.heard) (hears_part g.T.Teller.wanting g.T.Teller.part) r c.decided_on-in-None.result _ _ _ _ _ _ _ _ _ _ _ i some c.end.ensures.is c.decided_on-in-None.ensures.value
 
 pub scan-returns-in_default-clause-does : goal.scan-returns-in_default-clause-does
 scan-returns-in_default-clause-does g t c =
     let T = g.T.Teller in
+    let F = g.F.Files in
     let r = machine_rest c.args.start in
     let i = c.tokens.invariant.on in
     let none = sym c.raw.ensures ∙ no_value c.raw.result c.in_default.not-Some in
@@ -445,17 +504,24 @@ scan-returns-in_default-clause-does g t c =
     let now = c.tokens.self in
     let new = c.decided_on.new.self in
     let tell = c.tokens.tell in
+    let files = c.tokens.files in
     let decides = rw c.deref.ensures.value at e.decides in
-    let d = did_silent (hears T.wanting T.heard) (hears_part T.wanting T.part) _ c.decided_on.result now new (T.faults tell) tell decides e.kept e.limit e.keeps e.progress in
+    let d = did_silent (hears T.wanting T.heard) (hears_part T.wanting T.part) _ c.decided_on.result now new (outside (F.shelf files) (F.faults files) (T.faults tell) (T.loan tell)) tell (decides (F.shelf files)) e.kept e.limit e.keeps e.progress e.files i.owns in
     scan_decides (hears T.wanting T.heard) (hears_part T.wanting T.part) r c.decided_on.result _ _ _ _ _ _ _ _ _ _ _ _ i none d
 
 pub scan-returns-in_default-clause-lower : goal.scan-returns-in_default-clause-lower
 scan-returns-in_default-clause-lower g t c =
-    does_lower _ _ (λ calls. calls.scan (machine_rest c.args.start) []) (lawful_scan (machine_rest c.args.start)) _ _ _ _ _ _ _ (scan-returns-in_default-clause-does g t c)
+    let puts = rw c.deref.ensures.value at c.decided_on.ensures.puts in
+    scanned_shrinks c.decided_on.result _ _ _ _ c.tokens.self _ c.tokens.invariant.on.lower puts
+
+pub scan-returns-in_default-clause-gives : goal.scan-returns-in_default-clause-gives
+scan-returns-in_default-clause-gives g t c =
+    decided_gives (machine_rest c.args.start) c.decided_on.result _ c.tokens.scanned c.tokens.invariant.on.is c.decided_on.ensures.value
 
 pub scan-returns-in_err-look-clause-does : goal.scan-returns-in_err-look-clause-does
 scan-returns-in_err-look-clause-does g t c =
     let T = g.T.Teller in
+    let F = g.F.Files in
     let r = machine_rest c.args.start in
     let i = c.tokens.invariant.on in
     let some = sym c.raw.ensures ∙ c.in-Some.is in
@@ -468,6 +534,7 @@ scan-returns-in_err-look-clause-does g t c =
 pub scan-returns-in_err-looked-clause-does : goal.scan-returns-in_err-looked-clause-does
 scan-returns-in_err-looked-clause-does g t c =
     let T = g.T.Teller in
+    let F = g.F.Files in
     let r = machine_rest c.args.start in
     let i = c.tokens.invariant.on in
     let some = sym c.raw.ensures ∙ c.in-Some.is in
@@ -477,6 +544,7 @@ scan-returns-in_err-looked-clause-does g t c =
 pub scan-rounds-preserved : goal.scan-rounds-preserved
 scan-rounds-preserved g t c =
     let T = g.T.Teller in
+    let F = g.F.Files in
     let r = machine_rest c.args.start in
     let i = c.tokens.invariant.on in
     let some = sym c.raw.ensures ∙ c.in-Some.is in
@@ -492,6 +560,7 @@ scan-rounds-preserved g t c =
 pub scan-tokens-preserved : goal.scan-tokens-preserved
 scan-tokens-preserved g t c =
     let T = g.T.Teller in
+    let F = g.F.Files in
     let r = machine_rest c.args.start in
     let i = c.tokens.invariant.on in
     let some = sym c.raw.ensures ∙ c.in-Some.is in
@@ -508,8 +577,10 @@ scan-tokens-preserved g t c =
 pub the-returns-clause-does : goal.the-returns-clause-does
 the-returns-clause-does g t c =
     let T = g.T.Teller in
+    let F = g.F.Files in
     let mid = c.next_looked.new.self in
     let tell = c.next_looked.new.tell in
+    let files = c.next_looked.new.files in
     let x = looked_at mid.names c.in-Some.looked in
     let d = rw c.in-Some.is at c.in_ok-looked.ensures.does in
     let m = meaning_at mid.names c.in-Ok.meaning in
@@ -517,33 +588,39 @@ the-returns-clause-does g t c =
     let now = c.internal.new.self in
     let new = c.shown.new.self in
     let last = c.internal.new.tell in
+    let held_files = c.internal.new.files in
     let q = internal_at now.names c.in_ok-internal.internal in
-    let u = does_as (hears T.wanting T.heard) (hears_part T.wanting T.part) (tokens_at new.names) (λ c. give (shown q)) (lawful_give (shown q)) c.shown.result now new (T.faults last) last (by_new tokens_at _ _ now new e.writes e.same) e.kept e.limit e.keeps e.progress in
+    let u = does_as (hears T.wanting T.heard) (hears_part T.wanting T.part) (tokens_at new.names) (λ c. give (shown q)) (lawful_give (shown q)) c.shown.result now new (outside (F.shelf held_files) (F.faults held_files) (T.faults last) (T.loan last)) last (by_new tokens_at _ _ now new e.writes e.same) e.kept e.limit e.keeps e.progress e.files c.in_ok-internal.ensures.does.holds.owns in
     let k = shown_then (hears T.wanting T.heard) (hears_part T.wanting T.part) x m q _ _ _ _ _ _ _ _ _ _ c.in-Ok.ensures.means c.in_ok-internal.ensures.does u in
     the_behind (hears T.wanting T.heard) (hears_part T.wanting T.part) x _ _ _ _ _ _ _ _ _ _ d k
 
 pub the-returns-in-Err-clause-does : goal.the-returns-in-Err-clause-does
 the-returns-in-Err-clause-does g t c =
     let T = g.T.Teller in
+    let F = g.F.Files in
     let mid = c.next_looked.new.self in
     let tell = c.next_looked.new.tell in
+    let files = c.next_looked.new.files in
     let x = looked_at mid.names c.in-Some.looked in
     let d = rw c.in-Some.is at c.in_ok-looked.ensures.does in
     let e = c.no_memory.ensures in
-    let k = does_out (hears T.wanting T.heard) (hears_part T.wanting T.part) (shown_now x) (lawful_shown_now x) c.no_memory.result mid c.no_memory.new.self (T.faults tell) tell e.is e.kept in
+    let k = does_out (hears T.wanting T.heard) (hears_part T.wanting T.part) (shown_now x) (lawful_shown_now x) c.no_memory.result mid c.no_memory.new.self (outside (F.shelf files) (F.faults files) (T.faults tell) (T.loan tell)) tell e.is e.kept d.holds.owns in
     the_behind (hears T.wanting T.heard) (hears_part T.wanting T.part) x _ _ _ _ _ _ _ _ _ _ d k
 
 pub the-returns-in-None-clause-does : goal.the-returns-in-None-clause-does
 the-returns-in-None-clause-does g t c =
     let T = g.T.Teller in
+    let F = g.F.Files in
     let d = rw c.in-None.is at c.in_ok-looked.ensures.does in
     the_ends (hears T.wanting T.heard) (hears_part T.wanting T.part) c.bare_fault.result _ c.next_looked.new.self c.bare_fault.new.self _ _ _ _ d c.bare_fault.ensures.is c.bare_fault.ensures.kept
 
 pub the-returns-in_err-internal-clause-does : goal.the-returns-in_err-internal-clause-does
 the-returns-in_err-internal-clause-does g t c =
     let T = g.T.Teller in
+    let F = g.F.Files in
     let mid = c.next_looked.new.self in
     let tell = c.next_looked.new.tell in
+    let files = c.next_looked.new.files in
     let x = looked_at mid.names c.in-Some.looked in
     let d = rw c.in-Some.is at c.in_ok-looked.ensures.does in
     let m = meaning_at mid.names c.in-Ok.meaning in
@@ -559,13 +636,15 @@ the-returns-in_err-looked-clause-does g t c =
 pub look_by-returns-in_default : goal.look_by-returns-in_default
 look_by-returns-in_default g t c =
     let T = g.T.Teller in
+    let F = g.F.Files in
     let mine = c.args.self.now in
     let tell = c.args.tell.now in
+    let files = c.args.files.now in
     let t = token_at mine.names c.args.token in
     let m = meaning_at mine.names c.in-Ok.meaning in
     let r = machine_rest c.args.machine.now in
     let names = ap (λ (h : Held). h.names) c.self.view_is in
     let first = c.looked_at-look.ensures ∙ ap (λ texts. look_of (token_at texts c.args.token) c.in-Ok.meaning Nothing) names ∙ look_at mine.names t c.in-Ok.meaning Nothing in
     let is = ap (λ l. r (l ∷ [])) (sym first) ∙ c.turn.ensures.is in
-    let d = look_now (hears T.wanting T.heard) (hears_part T.wanting T.part) r t m c.turn.result mine (T.faults tell) tell c.requires.sound c.requires.running c.in-Ok.ensures.means is c.in_default.not-Asked in
-    record { does = subst (λ l. Does (hears T.wanting T.heard) (hears_part T.wanting T.part) (λ n. look (level n) r [] t) (Ok l) mine mine (T.faults tell) (T.faults tell) tell tell) (sym first) d; turned = record { is = c.turn.ensures.is; on = c.turn.ensures.on }; lower = lower_none (state_of mine) }
+    let d = look_now (hears T.wanting T.heard) (hears_part T.wanting T.part) r t m c.turn.result mine (outside (F.shelf files) (F.faults files) (T.faults tell) (T.loan tell)) tell c.requires.sound c.requires.running c.requires.owns c.in-Ok.ensures.means is c.in_default.not-Asked in
+    record { does = subst (λ l. Does (hears T.wanting T.heard) (hears_part T.wanting T.part) (λ n. look (level n) r [] t) (Ok l) mine mine (outside (F.shelf files) (F.faults files) (T.faults tell) (T.loan tell)) (outside (F.shelf files) (F.faults files) (T.faults tell) (T.loan tell)) tell tell) (sym first) d; turned = record { is = c.turn.ensures.is; on = c.turn.ensures.on }; lower = shrinks_none (F.shelf files) mine }

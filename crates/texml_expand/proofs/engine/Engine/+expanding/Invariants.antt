@@ -1,8 +1,8 @@
 use Rattle.std.proofs.Common.{◌≡◌, ◌+◌, ◌-◌, ◌*◌, ℕ}
 use Rattle.texml_expand.specs.Hearing.{hears, hears_part}
 use Rattle.texml_expand.specs.Machine.{machine_rest}
-use Rattle.texml_expand.specs.State.{room}
-use Rattle.texml_expand.specs.Held.{state_of}
+use Rattle.texml_expand.specs.Contract.{outside}
+use Rattle.texml_expand.specs.Held.{held_room}
 use Rattle.texml_expand.proofs.Rounds.{Fetching}
 use Rattle.texml_expand.proofs.Looks.{Scanning}
 use Rattle.texml_expand.proofs.engine.Engine.+expanding.Given as goal
@@ -45,25 +45,33 @@ abbrev pub decreases-given : goal.decreases-given
 decreases-given g l = measure l.self.now.nesting l.deep 9
 
 abbrev pub invariant-fetch_on-fronts : goal.invariant-fetch_on-fronts
-invariant-fetch_on-fronts g l = Fetching (hears g.T.Teller.wanting g.T.Teller.heard) (hears_part g.T.Teller.wanting g.T.Teller.part) l.fn.self (g.T.Teller.faults l.fn.tell) l.fn.tell l.self (g.T.Teller.faults l.tell) l.tell
+invariant-fetch_on-fronts g l =
+    let T = g.T.Teller in
+    let F = g.F.Files in
+    Fetching (hears T.wanting T.heard) (hears_part T.wanting T.part) l.fn.self (outside (F.shelf l.fn.files) (F.faults l.fn.files) (T.faults l.fn.tell) (T.loan l.fn.tell)) l.fn.tell l.self (outside (F.shelf l.files) (F.faults l.files) (T.faults l.tell) (T.loan l.tell)) l.tell
 
 abbrev pub decreases-fetch_on-fronts : goal.decreases-fetch_on-fronts
 decreases-fetch_on-fronts g l = l.self.limit - l.self.begun
 
 abbrev pub invariant-scan-rounds : goal.invariant-scan-rounds
 invariant-scan-rounds g l =
-    Scanning (hears g.T.Teller.wanting g.T.Teller.heard) (hears_part g.T.Teller.wanting g.T.Teller.part) (machine_rest l.fn.start) l.fn.self (g.T.Teller.faults l.fn.tell) l.fn.tell (machine_rest l.machine) l.scanned l.seen.items l.self (g.T.Teller.faults l.tell) l.tell
+    let T = g.T.Teller in
+    let F = g.F.Files in
+    Scanning (hears T.wanting T.heard) (hears_part T.wanting T.part) (machine_rest l.fn.start) l.fn.self (outside (F.shelf l.fn.files) (F.faults l.fn.files) (T.faults l.fn.tell) (T.loan l.fn.tell)) l.fn.tell (machine_rest l.machine) l.scanned l.seen.items l.self (outside (F.shelf l.files) (F.faults l.files) (T.faults l.tell) (T.loan l.tell)) l.tell
 
 abbrev pub decreases-scan-rounds : goal.decreases-scan-rounds
 decreases-scan-rounds g l = l.self.limit - l.self.begun
 
 abbrev pub invariant-scan-tokens : goal.invariant-scan-tokens
-invariant-scan-tokens g l = record {
-  on : Scanning (hears g.T.Teller.wanting g.T.Teller.heard) (hears_part g.T.Teller.wanting g.T.Teller.part) (machine_rest l.fn.start) l.fn.self (g.T.Teller.faults l.fn.tell) l.fn.tell (machine_rest l.machine) l.scanned l.seen.items l.self (g.T.Teller.faults l.tell) l.tell;
+invariant-scan-tokens g l =
+    let T = g.T.Teller in
+    let F = g.F.Files in
+    record {
+  on : Scanning (hears T.wanting T.heard) (hears_part T.wanting T.part) (machine_rest l.fn.start) l.fn.self (outside (F.shelf l.fn.files) (F.faults l.fn.files) (T.faults l.fn.tell) (T.loan l.fn.tell)) l.fn.tell (machine_rest l.machine) l.scanned l.seen.items l.self (outside (F.shelf l.files) (F.faults l.files) (T.faults l.tell) (T.loan l.tell)) l.tell;
   begun : l.self.begun ≡ l.begun;
   same : l.begun ≡ l.initial.self.begun;
   limit : l.self.limit ≡ l.initial.self.limit;
 }
 
 abbrev pub decreases-scan-tokens : goal.decreases-scan-tokens
-decreases-scan-tokens g l = room (state_of l.self)
+decreases-scan-tokens g l = held_room (g.F.Files.shelf l.files) l.self

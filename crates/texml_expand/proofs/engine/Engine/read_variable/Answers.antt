@@ -1,3 +1,4 @@
+use Rattle.texml_expand.specs.Contract.{outside}
 use Rattle.std.proofs.Common.{sym, ap, ◌∙◌, rules}
 use Rattle.texml_scope.specs.Numbers.{key_at}
 use Rattle.texml_expand.specs.State.{give}
@@ -14,15 +15,17 @@ use Rattle.texml_expand.proofs.engine.Engine.read_variable.Goals as goal
 pub returns-clause-follows : goal.returns-clause-follows
 returns-clause-follows g c = λ running.
     let T = g.T.Teller in
+    let F = g.F.Files in
     let new = c.index.new.self in
     let tell = c.index.new.tell in
+    let files = c.index.new.files in
     let v = c.args.variable in
     let n = c.in_ok-number.number in
     let i = c.in_ok-number.ensures.does in
     let d = index_as _ _ _ (index_of v) _ _ _ _ _ _ _ (sym c.index_of.ensures) i in
     let same = ap (key_at new.names) c.key_of.ensures ∙ key_same new.names v n in
     let k = does_then (hears T.wanting T.heard) (hears_part T.wanting T.part) (λ c. read_index c (index_of v)) (λ n c. give (key_of v n)) (lawful_index (index_of v)) (λ n. lawful_give (key_of v n)) n _ _ _ _ _ _ _ _ _ _ d
-    (does_now (hears T.wanting T.heard) (hears_part T.wanting T.part) (key_of v n) new (T.faults tell) tell i.keeps.sound i.stops.kept) in
+    (does_now (hears T.wanting T.heard) (hears_part T.wanting T.part) (key_of v n) new (outside (F.shelf files) (F.faults files) (T.faults tell) (T.loan tell)) tell i.keeps.sound i.stops.kept) in
     rw same k.follows
 
 pub returns-in_err-number-clause-follows : goal.returns-in_err-number-clause-follows
