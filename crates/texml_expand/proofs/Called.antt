@@ -153,7 +153,7 @@ module _ (old mid : Held) (grows : Extends old.names mid.names) (m : MacroCode) 
 
   pub arguments_out : (e : Stop) (new : Held) → e ≡ stop.NoMemory → new ≡ record mid { stop = Some stop.NoMemory } → Gets (macro_arguments (macro_at old.names m)) (Err e) old new f g
   arguments_out e new short is' =
-      gets_then (first_argument m.long (option_map (tokens_at old.names) m.params.default)) onward firsts (Err e) old mid new f g g reads (gets_out (onward firsts) e mid new g short no reads.holds.owns)
+      gets_then (first_argument m.long (option_map (tokens_at old.names) m.params.default)) onward firsts (Err e) old mid new f g g reads (gets_out (onward firsts) e mid new g short is' reads.holds.owns)
 
   firsts_kept : (new : Table) → Extends mid.names new → (o : Option (List TokenCode)) → OptionWithin (TokensWithin (length mid.names)) o → map (tokens_at new) (option_to_list o) ≡ map (tokens_at mid.names) (option_to_list o)
   firsts_kept new k None within = refl

@@ -30,10 +30,10 @@ use Rattle.texml_expand.proofs.Branching.{lawful_number, lawful_conditional, law
 
 -- What an expansion gives
 
-lawful_decimal : Lawful decimal
+pub lawful_decimal : Lawful decimal
 lawful_decimal = lawful_then number (λ i c. give (printed_tokens (signed_decimal i))) lawful_number (λ i. lawful_give (printed_tokens (signed_decimal i)))
 
-lawful_roman_numeral : Lawful roman_numeral
+pub lawful_roman_numeral : Lawful roman_numeral
 lawful_roman_numeral = lawful_then number (λ i c. give (printed_tokens (roman_text i))) lawful_number (λ i. lawful_give (printed_tokens (roman_text i)))
 
 pub lawful_given : (t : Token) (e : Expandable) → Lawful (λ c. given c t e)

@@ -23,6 +23,7 @@ pub mod Meeting
 mod Rows
 pub mod Scanning
 pub mod Printing
+pub mod Counting
 pub mod Judging
 pub mod Faces
 pub mod Fronts
@@ -38,6 +39,10 @@ pub mod Stepping
 pub mod Skips
 pub mod Seeks
 pub mod Skipping
+pub mod Seeking
+pub mod Comparing
+pub mod Gifts
+pub mod Testing
 pub mod Groups
 pub mod Sequence
 pub mod Spacing

@@ -138,7 +138,7 @@ lawful_internal_now t = lawful_by (λ s. means s.world t) (λ m c. internal c m)
 abbrev pub internal_behind : Option Looked → By Internal
 internal_behind o c s = chain (needed o s) (λ x. internal_now c x.counts)
 
-lawful_internal_behind : (o : Option Looked) → Lawful (internal_behind o)
+pub lawful_internal_behind : (o : Option Looked) → Lawful (internal_behind o)
 lawful_internal_behind o = lawful_then (λ c. needed o) (λ x c. internal_now c x.counts) (lawful_needed o) (λ x. lawful_internal_now x.counts)
 
 pub lawful_next_internal : Lawful next_internal

@@ -16,13 +16,13 @@ use Rattle.texml_token.proofs.Translation.{token_kept, token_more}
 use Rattle.texml_watch.specs.declared.record.Record.{Record}
 use Rattle.texml_scope.specs.Shown.{KeyCode}
 use Rattle.texml_scope.specs.Texts.{Meaning}
-use Rattle.texml_scope.specs.Numbers.{MeaningCode, meaning_at, key_at, name_text}
+use Rattle.texml_scope.specs.Numbers.{MeaningCode, meaning_at, key_at, name_text, KeyWithin}
 use Rattle.texml_scope.specs.declared.values.MeaningOf.TheVariants as codes
 use Rattle.texml_token.specs.declared.fault_code.TheConstants.{MISSING_NUMBER}
 use Rattle.texml_expand.specs.declared.variables.Variable.{Variable}
 use Rattle.texml_expand.specs.declared.variables.Variable.TheVariants as variables
-use Rattle.texml_expand.specs.Variables.{Internal, key_of}
-use Rattle.texml_expand.specs.VariableCodes.{key_by, internal_at, held_by}
+use Rattle.texml_expand.specs.Variables.{Internal, index_of, key_of}
+use Rattle.texml_expand.specs.VariableCodes.{HasNumber, key_by, internal_at, held_by}
 use Rattle.texml_scan.specs.declared.looks.Look.{Look}
 use Rattle.texml_scan.specs.declared.looks.Look.TheVariants.{End}
 use Rattle.texml_scan.specs.declared.looks.Held.{Held as HeldLook}
@@ -357,3 +357,15 @@ pub end_gives : {T : Type 0} (hear part : T → Record → T → Type 0) (g : Re
     → Scanning hear part g old f a left x seen now k b → raw_in x ≡ Some raw → left (End ∷ []) ≡ ended_as end → IfOk r (λ v. HasValue v end) → IfOk r (MayGive g)
 end_gives hear part g r old now f k a b left x end seen raw i some is h =
     ended_gives g r (looks_in seen ++ End ∷ []) end (sym (goes_on x raw ((more : List Look) → left more ≡ g (looks_in seen ++ more)) some i.left (End ∷ [])) ∙ is) h
+
+-- so many names give the key of a variable, which has none
+pub key_within : (count : ℕ) (v : Variable) (n : ℕ) → HasNumber (index_of v) n → KeyWithin count (key_by v n)
+key_within count variables.Cat n h = h
+key_within count variables.Lower n h = h
+key_within count variables.Upper n h = h
+key_within count variables.EscapeChar n h = tt
+key_within count variables.EndLineChar n h = tt
+key_within count variables.Count n h = tt
+key_within count variables.Dimen n h = tt
+key_within count variables.Skip n h = tt
+key_within count variables.Toks n h = tt

@@ -9,6 +9,7 @@ use Rattle.texml_expand.specs.declared.stop.Stop.{Stop}
 use Rattle.texml_expand.specs.declared.stop.Stop.TheVariants as stop
 use Rattle.texml_expand.specs.State.{State, Gains, nothing, ◌⊕◌, Answer, Done, Ended, Unfinished, Reading, after, chain, added, tell}
 use Rattle.texml_expand.specs.Contract.{Silent, Quiet, DecidesOn, Stops, ReadsBecause, TellsBecause, Outside, outside, files_at, stop_after}
+use Rattle.texml_expand.specs.Held.{ok_at}
 use Rattle.texml_expand.specs.Hearing.{HearsIf, HearsPartIf, hears, hears_part, HeardLast, MeetsFirst, MeetsCut, MeetsPart, Meets, Follows}
 
 -- what is added
@@ -204,3 +205,8 @@ tells_as A B stop.NoMemory x y h = h
 
 pub stops_as : (A B : Type 0) (e : Stop) (x y : Outside) (k : Option Stop) → Stops {A = A} (Err e) x y k → Stops {A = B} (Err e) x y k
 stops_as A B e x y k h = record { kept = h.kept; reads = reads_as A B e _ _ h.reads; tells = tells_as A B e _ _ h.tells; loan = h.loan }
+
+-- the value of a call doesn't matter for its stop
+pub stops_of : {A B : Type 0} (at : A → B) (r : Result A Stop) (x y : Outside) (k : Option Stop) → Stops (ok_at at r) x y k → Stops r x y k
+stops_of at (Ok v) x y k h = record { kept = h.kept; reads = h.reads; tells = h.tells; loan = h.loan }
+stops_of {A = A} {B = B} at (Err e) x y k h = stops_as B A e x y k h

@@ -5,7 +5,7 @@ use Rattle.texml_base.specs.Outside.{Shelf}
 use Rattle.texml_token.specs.declared.tokens.Token.{Token as TokenCode}
 use Rattle.texml_token.specs.Numbers.{token_at, tokens_at, TokenWithin, TokensWithin}
 use Rattle.texml_token.proofs.Table.{extends_refl}
-use Rattle.texml_input.specs.Rest.{items_at}
+use Rattle.texml_input.specs.Rest.{Tok, items_at}
 use Rattle.texml_input.specs.Held.{Source, Plain, Marked, back_source, ids_of, fences_of, aside_of, rest_at, room_of, SourcesWithin}
 use Rattle.texml_input.proofs.Sources.{aside_put, ids_put, fences_put, room_put, within_put}
 use Rattle.texml_input.proofs.Standing.{rest_tokens, rest_back, within_back}
@@ -56,5 +56,8 @@ files_back h t false = record { ids = refl; fences = refl }
 
 -- the end of an expansion, before it is told of
 pub state_finished : (h : Held) (list : List TokenCode) (shelf : Shelf)
-    → state_of shelf (record h { input = record h.input { sources = map Plain list ++ h.input.sources }; nesting = h.nesting - 1 }) ≡ finished (tokens_at h.names list) (state_of shelf h)
+    → state_of shelf (record h { input = record h.input { sources = map Plain list ++ h.input.sources }; nesting = h.nesting - 1 }) ≡ finished (map Tok (tokens_at h.names list)) (state_of shelf h)
 state_finished h list shelf = ap (λ (s : State). record s { nesting = h.nesting - 1 }) (state_put h list shelf)
+
+pub files_finished : (h new : Held) (list : List TokenCode) → SameFiles (record h { input = record h.input { sources = map Plain list ++ h.input.sources }; nesting = h.nesting - 1 }) new → SameFiles h new
+files_finished h new list same = record { ids = same.ids ∙ ids_put list h.input.sources; fences = same.fences ∙ fences_put list h.input.sources }

@@ -11,11 +11,12 @@ use Rattle.texml_input.specs.Held.{Plain}
 use Rattle.texml_input.specs.Next.{Taken}
 use Rattle.texml_expand.specs.State.{State, nothing, Done}
 use Rattle.texml_expand.specs.declared.variables.Index.{Index}
-use Rattle.texml_expand.specs.Calls.{Expandable}
+use Rattle.texml_expand.specs.Calls.{Expandable, Gift}
+use Rattle.texml_expand.specs.declared.engine.expanding.Gift.{Gift as GiftCode}
 use Rattle.texml_expand.specs.Quantities.{Looked, read_index, next_looked}
 use Rattle.texml_expand.specs.Expand.{Front, Nothing, Plain, Expands, front, begin, given, finish, expand_by, fetch_front, level}
 use Rattle.texml_expand.specs.declared.engine.expanding.Front.{Front as FrontCode}
-use Rattle.texml_expand.specs.Fronts.{front_at}
+use Rattle.texml_expand.specs.Fronts.{front_at, gift_at}
 use Rattle.texml_expand.specs.Held.{Held, state_of, Sound, Kept, Progress, IsAtLimit, Owns, Holding, SameFiles, Shrinks, Begun}
 use Rattle.texml_expand.specs.Contract.{Local, Outside, outside, files_at, Stops, stop_after}
 use Rattle.texml_expand.specs.Hearing.{Meets}
@@ -103,21 +104,21 @@ module _ {T : Type 0} (hear part : T → Record → T → Type 0) where
   pub expand_stops : (t : Token) (x : Expandable) (e : Stop) (old new : Held) (f : Outside) (a : T) → Did hear part (begin (state_of f.shelf old)) (Err e) old new f f a a → Does hear part (λ n. (level n).expand t x) (Err e) old new f f a a
   expand_stops t x e old new f a d = expand_does t x (Err e) old new f f a a (did_stop hear part (begin (state_of f.shelf old)) _ e old new f f a a d)
 
-  pub expand_ungiven : (t : Token) (x : Expandable) (e : Stop) (old mid new : Held) (f g : Outside) (a b : T) → Did hear part (begin (state_of f.shelf old)) (Ok tt) old mid f f a a → Does hear part (λ n. given (level n) x) (Err e) mid new f g a b
+  pub expand_ungiven : (t : Token) (x : Expandable) (e : Stop) (old mid new : Held) (f g : Outside) (a b : T) → Did hear part (begin (state_of f.shelf old)) (Ok tt) old mid f f a a → Does hear part (λ n. given (level n) t x) (Err e) mid new f g a b
       → Does hear part (λ n. (level n).expand t x) (Err e) old new f g a b
   expand_ungiven t x e old mid new f g a b d k =
       expand_does t x (Err e) old new f g a b (did_then hear part (begin (state_of f.shelf old)) _ tt (Err e) old mid new f f g a a b d
-      (did_stop hear part (given total x (state_of f.shelf mid)) (finish t) e mid new f g a b (did_of hear part (λ c. given c x) (lawful_given x) (Err e) mid new f g a b k)))
+      (did_stop hear part (given total t x (state_of f.shelf mid)) (finish t) e mid new f g a b (did_of hear part (λ c. given c t x) (lawful_given t x) (Err e) mid new f g a b k)))
 
-  pub expand_ends : (t : Token) (x : Expandable) (list : List Token) (r : Result (Unit {0}) Stop) (old mid now new : Held) (f g h : Outside) (a b c : T) → Did hear part (begin (state_of f.shelf old)) (Ok tt) old mid f f a a
-      → Does hear part (λ n. given (level n) x) (Ok list) mid now f g a b → Did hear part (finish t list (state_of g.shelf now)) r now new g h b c → Does hear part (λ n. (level n).expand t x) r old new f h a c
-  expand_ends t x list r old mid now new f g h a b c d k u =
+  pub expand_ends : (t : Token) (x : Expandable) (gift : Gift) (r : Result (Unit {0}) Stop) (old mid now new : Held) (f g h : Outside) (a b c : T) → Did hear part (begin (state_of f.shelf old)) (Ok tt) old mid f f a a
+      → Does hear part (λ n. given (level n) t x) (Ok gift) mid now f g a b → Did hear part (finish t gift (state_of g.shelf now)) r now new g h b c → Does hear part (λ n. (level n).expand t x) r old new f h a c
+  expand_ends t x gift r old mid now new f g h a b c d k u =
       expand_does t x r old new f h a c (did_then hear part (begin (state_of f.shelf old)) _ tt r old mid new f f h a a c d
-      (did_then hear part (given total x (state_of f.shelf mid)) (finish t) list r mid now new f g h a b c (did_of hear part (λ c. given c x) (lawful_given x) (Ok list) mid now f g a b k) u))
+      (did_then hear part (given total t x (state_of f.shelf mid)) (finish t) gift r mid now new f g h a b c (did_of hear part (λ c. given c t x) (lawful_given t x) (Ok gift) mid now f g a b k) u))
 
   -- the same expansion
-  pub given_as : (x y : Expandable) (r : Result (List Token) Stop) (old new : Held) (f g : Outside) (a b : T) → y ≡ x → Does hear part (λ n. given (level n) x) r old new f g a b → Does hear part (λ n. given (level n) y) r old new f g a b
-  given_as x y r old new f g a b e d = subst (λ z. Does hear part (λ n. given (level n) z) r old new f g a b) (sym e) d
+  pub given_as : (t u : Token) (x y : Expandable) (r : Result Gift Stop) (old new : Held) (f g : Outside) (a b : T) → u ≡ t → y ≡ x → Does hear part (λ n. given (level n) t x) r old new f g a b → Does hear part (λ n. given (level n) u y) r old new f g a b
+  given_as t u x y r old new f g a b s e d = subst (λ z. Does hear part (λ n. given (level n) u z) r old new f g a b) (sym e) (subst (λ z. Does hear part (λ n. given (level n) z x) r old new f g a b) (sym s) d)
 
   -- an expansion begins
   pub begins_did : (r : Result (Unit {0}) Stop) (old new : Held) (f : Outside) (a : T) → Sound old → Local begin r old new → new.stop ≡ stop_after r → OnOk r (new ≡ record old { begun = old.begun + 1; nesting = old.nesting + 1 })
@@ -127,15 +128,15 @@ module _ {T : Type 0} (hear part : T → Record → T → Type 0) where
   begins_did (Err e) old new f a sound is kept same fits limit progress files owns = did_silent hear part (begin (state_of f.shelf old)) (Err e) old new f a (is f.shelf) kept limit tt progress files owns
 
   -- and ends
-  pub finish_did : (t u : Token) (list : List TokenCode) (r : Result (Unit {0}) Stop) (old new : Held) (shelf : Shelf) (reads tells tells' loan loan' : ℕ) (a b : T) → Sound old → TokensWithin (length old.names) list → u ≡ t
-      → ((shelf : Shelf) → Meets hear part (finish u (tokens_at old.names list) (state_of shelf old)) r (state_of shelf new) a b) → ((shelf : Shelf) (reads : ℕ) → Stops r (outside shelf reads tells loan) (outside shelf reads tells' loan') new.stop)
-      → OnOk r (new ≡ record old { input = record old.input { sources = map Plain list ++ old.input.sources }; nesting = old.nesting - 1 }) → IsAtLimit r new → Progress old new → SameFiles old new → Owns shelf old
-      → Did hear part (finish t (tokens_at old.names list) (state_of shelf old)) r old new (outside shelf reads tells loan) (outside shelf reads tells' loan') a b
-  finish_did t u list r old new shelf reads tells tells' loan loan' a b sound within e meets stops is limit progress files owns = record {
-    meets = λ told. subst (λ x. Meets hear part (finish x (tokens_at old.names list) (state_of shelf old)) r (state_of shelf new) a b) e (meets shelf);
+  pub finish_did : (t u : Token) (gift : GiftCode) (r : Result (Unit {0}) Stop) (old new : Held) (shelf : Shelf) (reads tells tells' loan loan' : ℕ) (a b : T) → u ≡ t
+      → ((shelf : Shelf) → Meets hear part (finish u (gift_at old.names gift) (state_of shelf old)) r (state_of shelf new) a b) → ((shelf : Shelf) (reads : ℕ) → Stops r (outside shelf reads tells loan) (outside shelf reads tells' loan') new.stop)
+      → OnOk r (Kept old new) → IsAtLimit r new → Progress old new → SameFiles old new → Owns shelf old
+      → Did hear part (finish t (gift_at old.names gift) (state_of shelf old)) r old new (outside shelf reads tells loan) (outside shelf reads tells' loan') a b
+  finish_did t u gift r old new shelf reads tells tells' loan loan' a b e meets stops keeps limit progress files owns = record {
+    meets = λ told. subst (λ x. Meets hear part (finish x (gift_at old.names gift) (state_of shelf old)) r (state_of shelf new) a b) e (meets shelf);
     stops = stops shelf reads;
     limit = limit;
-    keeps = finished_kept old new list r is sound within;
+    keeps = keeps;
     progress = progress;
     holds = holding_same shelf old new owns files;
   }

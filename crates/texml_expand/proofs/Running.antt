@@ -193,3 +193,11 @@ runs_at at (Err e) old new f g d = runs_stop e old new f g d
 pub ok_puts : {A : Type 0} (r : Result A Stop) (j k m : ℕ) (a b : Shelf) (old mid new : Held) → Shrinks j a old b mid → OnOk r (Puts k mid new) → m + k ≤ j → OnOk r (Shrinks m a old b new)
 ok_puts (Ok v) j k m a b old mid new g h le = shrinks_puts j k m a b old mid new g h le
 ok_puts (Err e) j k m a b old mid new g h le = tt
+
+pub ok_same : {A : Type 0} (r : Result A Stop) (k : ℕ) (a b : Shelf) (old now new : Held) → Shrinks k a old b now → OnOk r (new ≡ now) → OnOk r (Shrinks k a old b new)
+ok_same (Ok v) k a b old now new s e = shrinks_same k a b old now new s e
+ok_same (Err x) k a b old now new s e = tt
+
+-- the same files are its own
+pub owns_same : (shelf : Shelf) (old new : Held) → Owns shelf old → SameFiles old new → Owns shelf new
+owns_same shelf old new owns same = (holding_same shelf old new owns same).owns

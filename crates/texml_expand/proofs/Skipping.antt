@@ -30,6 +30,7 @@ pub record Skipping (old : Held) (f : Outside) (within : ℕ) (now : Held) (g : 
   pub owns : Owns g.shelf now
   pub runs : Runs {A = Unit {0}} (Ok tt) old now f g
   pub lower : Shrinks 0 f.shelf old g.shelf now
+  pub begun : now.begun ≡ old.begun
   pub seen : List MeaningCode
   pub fed : Fed seen within
   pub skips : IsTrue f.shelf.tells → Skips (state_of f.shelf old) seen (state_of g.shelf now)
@@ -41,6 +42,7 @@ skipping_none h f within running sound owns fed = record {
   owns = owns;
   runs = runs_now tt h f sound running owns;
   lower = shrinks_none f.shelf h;
+  begun = refl;
   seen = [];
   fed = fed;
   skips = λ told. skips_none (state_of f.shelf h);
@@ -78,13 +80,14 @@ module _ (old now new : Held) (f g h : Outside) (within : ℕ) (t : TokenCode) (
     abbrev part : part_of (means (world_in new) (token_at new.names t)) ≡ part_of m
     part = ap part_of (sym so) ∙ part_says new.names m
 
-    pub skipping_more : (within' : ℕ) → Fed (i.seen ++ m ∷ []) within' → Skipping old f within' new h
-    skipping_more within' fed = record {
+    pub skipping_more : (within' : ℕ) → Fed (i.seen ++ m ∷ []) within' → new.begun ≡ now.begun → Skipping old f within' new h
+    skipping_more within' fed same = record {
       running = d.stops.kept;
       sound = d.keeps.sound;
       owns = d.holds.owns;
       runs = behind (Ok tt) new h (runs_now tt new h d.keeps.sound d.stops.kept d.holds.owns);
       lower = shrinks_then 0 1 0 f.shelf g.shelf h.shelf old now new i.lower low (omega arith);
+      begun = same ∙ i.begun;
       seen = i.seen ++ m ∷ [];
       fed = fed;
       skips = λ told. skips_more (state_of f.shelf old) (state_of g.shelf now) i.seen (i.skips told) i.fed.undecided (token_at new.names t) (state_of h.shelf new) (d.reads (told_now told)) m part;

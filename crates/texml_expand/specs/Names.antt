@@ -31,9 +31,14 @@ with_name text w = if is_undefined (meaning_in (w.top (NameKey text))) then set_
 abbrev pub named : List ℕ → State → State
 named text s = record s { world = with_name text s.world }
 
+-- the name that these characters make
+abbrev pub name_of : List Token → Reading Gift
+name_of list = do
+  change (named (text_of list))
+  give (Puts (Named (text_of list) ∷ []))
+
 -- \csname gives the name that characters make, up to \endcsname
 abbrev pub cs_name : Calls → Reading Gift
 cs_name calls = do
   list ← calls.gather Name []
-  change (named (text_of list))
-  give (Puts (Named (text_of list) ∷ []))
+  name_of list

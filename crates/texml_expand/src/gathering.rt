@@ -1,13 +1,13 @@
 //! What is gathered of tokens that are expanded as they come.
 
-ghost use Rattle.std.specs.Prelude.{◌≡◌, ◌+◌, ◌∷◌, ◌++◌, [], ℕ, cond, IfOk, OnOk};
+ghost use Rattle.std.specs.Prelude.{◌≡◌, ◌==◌, ◌+◌, ◌∷◌, ◌++◌, [], ℕ, cond, IfOk, OnOk};
 ghost use Rattle.std.specs.List.{All};
 ghost use Rattle.std.specs.Char.{IsScalar};
 ghost use Rattle.texml_token.specs.Numbers.{Table, token_at, tokens_at, TokenWithin, TokensWithin};
 ghost use Rattle.texml_token.specs.Token.{has_category};
 ghost use Rattle.texml_expand.specs.Braces.{closes};
 ghost use Rattle.texml_expand.specs.Names.{char_code as spec_char_code, text_of as spec_text_of};
-ghost use Rattle.texml_expand.specs.Gathering.{doubled as spec_doubled};
+ghost use Rattle.texml_expand.specs.Gathering.{doubled_token, doubled as spec_doubled};
 
 use std::alloc::{AllocError, Global};
 use std::marker::Model;
@@ -58,18 +58,12 @@ impl Gathered {
     }
 
     /// Whether this token closes the group that they stand in.
-    pub(crate) fn closes(&self, token: Token) -> bool
-        ensures { (texts : Table) → result ≡ closes (tokens_at texts (self.now ++ token ∷ [])) }
+    pub(crate) fn closes(&self, token: Token) -> Result<bool, AllocError>
+        ensures { IfOk result (λ closed. (texts : Table) → closed ≡ closes (tokens_at texts (self.now ++ token ∷ []))) }
     {
-        if token.has_category(category::END_GROUP) {
-            return self.ended == self.begun;
-        }
-        let more = if token.has_category(category::BEGIN_GROUP) {
-            2
-        } else {
-            1
-        };
-        self.ended >= more && self.ended - more == self.begun
+        let begun = one_more(self.begun, token, category::BEGIN_GROUP)?;
+        let ended = one_more(self.ended, token, category::END_GROUP)?;
+        Ok(is_next(ended, begun))
     }
 
     /// One more token.
@@ -95,10 +89,10 @@ impl Gathered {
     }
 
     /// All of them.
-    pub(crate) fn into_tokens(self) -> Tokens
-        ensures { result ≡ self }
+    pub(crate) fn tokens(&self) -> Result<Tokens, AllocError>
+        ensures { IfOk result (λ list. list ≡ self.now) }
     {
-        self.list
+        self.list.clone()
     }
 }
 
@@ -113,13 +107,20 @@ fn one_more(count: usize, token: Token, category: u8) -> Result<usize, AllocErro
     }
 }
 
+// Whether a number is the one behind another.
+fn is_next(number: usize, before: usize) -> bool
+    ensures { result ≡ (number == before + 1) }
+{
+    number > before && number - before == 1
+}
+
 /// The text of characters.
-pub(crate) fn text_of(alloc: Global, list: &Tokens) -> Result<Line, AllocError>
+pub(crate) fn text_of(alloc: Global, list: &[Token]) -> Result<Line, AllocError>
     ensures is { IfOk result (λ line. (texts : Table) → line ≡ spec_text_of (tokens_at texts list.now)) }
     ensures scalars { IfOk result (λ line. (count : ℕ) → TokensWithin count list.now → All IsScalar line) }
 {
     let mut line = Line::new(alloc);
-    for token in list.as_slice() {
+    for token in list {
         line.push(char_code(*token))?;
     }
     Ok(line)
@@ -137,16 +138,25 @@ fn char_code(token: Token) -> u32
 }
 
 /// Tokens with each parameter character twice.
-pub(crate) fn doubled(alloc: Global, list: &Tokens) -> Result<Tokens, AllocError>
+pub(crate) fn doubled(alloc: Global, list: &[Token]) -> Result<Tokens, AllocError>
     ensures is { IfOk result (λ twice. (texts : Table) → tokens_at texts twice ≡ spec_doubled (tokens_at texts list.now)) }
     ensures within { IfOk result (λ twice. (count : ℕ) → TokensWithin count list.now → TokensWithin count twice) }
 {
     let mut twice = Tokens::new(alloc);
-    for token in list.as_slice() {
-        twice.push(*token)?;
-        if token.has_category(category::PARAMETER) {
-            twice.push(*token)?;
-        }
+    for token in list {
+        push_doubled(&mut twice, *token)?;
     }
     Ok(twice)
+}
+
+// One token more, or twice where it is a parameter character.
+fn push_doubled(list: &mut Tokens, token: Token) -> Result<(), AllocError>
+    ensures is { OnOk result ((texts : Table) → tokens_at texts list.new ≡ tokens_at texts list.old ++ doubled_token (token_at texts token)) }
+    ensures within { OnOk result ((count : ℕ) → TokenWithin count token → TokensWithin count list.old → TokensWithin count list.new) }
+{
+    list.push(token)?;
+    if token.has_category(category::PARAMETER) {
+        list.push(token)?;
+    }
+    Ok(())
 }

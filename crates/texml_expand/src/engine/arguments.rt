@@ -401,7 +401,7 @@ impl Engine {
     }
 
     // Whether a token is a space, or means one.
-    fn is_space(&self, token: Token) -> Result<bool, AllocError>
+    pub(super) fn is_space(&self, token: Token) -> Result<bool, AllocError>
         requires sound { Sound self.now }
         requires token { TokenWithin (length self.now.names) token }
         ensures { IfOk result (λ space. space ≡ spec_is_space (world_in self.now) (token_at self.now.names token)) }
@@ -473,7 +473,7 @@ pub fn means_space(meaning: &Meaning) -> bool
 }
 
 // Whether a token is this character, of category 12.
-fn is_sign(code: u32, token: Token) -> bool
+pub(super) fn is_sign(code: u32, token: Token) -> bool
     ensures { (texts : Table) → result ≡ spec_is_sign code (token_at texts token) }
 {
     match token {

@@ -343,6 +343,7 @@ impl Engine {
         requires owns { Owns (F.shelf files.old) self.old }
         ensures gets { Gets spec_skipped result self.old self.new (files_at (F.shelf files.old) (F.faults files.old)) (files_at (F.shelf files.new) (F.faults files.new)) }
         ensures lower { OnOk result (Shrinks 1 (F.shelf files.old) self.old (F.shelf files.new) self.new) }
+        ensures begun { self.new.begun ≡ self.old.begun }
     {
         let mut skip = Skip::new();
         'tokens: loop {
@@ -378,9 +379,9 @@ impl Engine {
         requires sound { Sound self.old }
         requires owns { Owns (F.shelf files.old) self.old }
         requires token { TokenWithin (length self.old.names) token }
-        ensures gets { Gets (spec_part_end (token_at self.old.names token) word) (ok_at (gift_at self.old.names) result) self.old self.new (files_at (F.shelf files.old) (F.faults files.old)) (files_at (F.shelf files.new) (F.faults files.new)) }
+        ensures gets { Gets (spec_part_end (token_at self.old.names token) word) (ok_at (gift_at self.new.names) result) self.old self.new (files_at (F.shelf files.old) (F.faults files.old)) (files_at (F.shelf files.new) (F.faults files.new)) }
         ensures lower { OnOk result (Shrinks 0 (F.shelf files.old) self.old (F.shelf files.new) self.new) }
-        ensures within { IfOk result (GiftWithin (length self.old.names)) }
+        ensures within { IfOk result (GiftWithin (length self.new.names)) }
     {
         match self.conditionals.allow(word) {
             Allow::Extra => Err(self.bare_fault(fault_code::EXTRA_COND)),

@@ -1,24 +1,24 @@
 //! Fetching, expanding and looking at tokens for quantities: these lead back to each other.
 
-ghost use Rattle.std.specs.Prelude.{ℕ, ◌≡◌, ◌+◌, ◌-◌, ◌≤◌, ◌∷◌, ◌++◌, Some, None, [], length, map, IfSome, IsSome, IfOk, OnOk, option_map, option_to_list, pos, OnErr, encode_utf8_all};
+ghost use Rattle.std.specs.Prelude.{ℕ, ◌≡◌, ◌+◌, ◌-◌, ◌≤◌, ◌∷◌, ◌++◌, Some, None, [], length, map, IfSome, IsSome, IfOk, OnOk, option_map, option_to_list, pos};
 ghost use Rattle.std.specs.List.{All};
 ghost use Rattle.texml_token.specs.Numbers.{token_at, tokens_at, TokenWithin, TokensWithin, OptionWithin};
 ghost use Rattle.texml_scope.specs.Numbers.{meaning_at, MeaningWithin};
 ghost use Rattle.texml_scan.specs.Grammar.{Expanded, Raw};
 ghost use Rattle.texml_base.specs.Outside.{Shelf};
-ghost use Rattle.texml_input.specs.Held.{Plain};
+ghost use Rattle.texml_input.specs.Held.{Plain, Marked};
 ghost use Rattle.texml_input.specs.Next.{Taken};
 ghost use Rattle.texml_expand.specs.Take.{meaning_of};
 ghost use Rattle.texml_expand.specs.State.{tell as spec_tell};
-ghost use Rattle.texml_expand.specs.Calls.{expandable, tokens_of};
-ghost use Rattle.texml_token.specs.Spelling.{shown as shown_text};
+ghost use Rattle.texml_expand.specs.Calls.{expandable, Puts, Freezes};
 ghost use Rattle.texml_expand.specs.Expand.{front_taken, begin, finish, record_of, level};
-ghost use Rattle.texml_expand.specs.Expand.{front as spec_front, given as spec_given, fetch as spec_fetch, look as spec_look, expand_once as spec_expand_once, read_int as spec_read_int, read_dimen as spec_read_dimen, read_index as spec_read_index};
+ghost use Rattle.texml_expand.specs.Expand.{front as spec_front, given as spec_given, fetch as spec_fetch, look as spec_look, expand_once as spec_expand_once, read_int as spec_read_int, read_dimen as spec_read_dimen, read_index as spec_read_index, decimal as spec_decimal, roman_numeral as spec_roman};
 ghost use Rattle.texml_expand.specs.Quantities.{next_looked, as_it_counts, int_text, dimension_text};
 ghost use Rattle.texml_expand.specs.Variables.{variable_at as spec_variable_at};
-ghost use Rattle.texml_expand.specs.Quantities.{the as spec_the, internal as spec_internal, internal_of, look as look_in};
-ghost use Rattle.texml_expand.specs.Fronts.{gift_at, gift_sources, GiftWithin, front_at, front_count, FrontWithin, is_undefined as means_nothing, expandable_at, ExpandableWithin, builtin_in, expandable_in, frozen_in, looked_at as looked_at_by, LookedWithin};
+ghost use Rattle.texml_expand.specs.Quantities.{next_internal as spec_next_internal, the as spec_the, internal as spec_internal, internal_of, look as look_in};
+ghost use Rattle.texml_expand.specs.Fronts.{gift_at, GiftWithin, front_at, front_count, FrontWithin, is_undefined as means_nothing, expandable_at, ExpandableWithin, builtin_in, expandable_in, frozen_in, looked_at as looked_at_by, LookedWithin};
 ghost use Rattle.texml_expand.specs.VariableCodes.{internal_at, InternalWithin, HasNumber};
+ghost use Rattle.texml_expand.specs.declared.engine.expanding.TheConstants.{DEEPEST};
 ghost use Rattle.texml_expand.specs.Machine.{machine_rest};
 ghost use Rattle.texml_expand.specs.Scanning.{Turned, MayGive};
 ghost use Rattle.texml_expand.specs.Held.{state_of, Sound, Kept, Progress, IsAtLimit, ok_at, read_at, ReadWithin, Owns, Holding, SameFiles, Shrinks, Begun};
@@ -79,7 +79,7 @@ pub(super) enum Gift {
 
 // What stands at the front: nothing, a token that isn't expanded, or one that is, and what it expands as.
 #[derive(Drop)]
-enum Front {
+pub(super) enum Front {
     Nothing,
     Plain(Read),
     Expands(Token, Expandable),
@@ -208,7 +208,7 @@ impl Engine {
     }
 
     // Takes the front.
-    fn front<F: Files>(&mut self, files: &mut F) -> Result<Front, Stop>
+    pub(super) fn front<F: Files>(&mut self, files: &mut F) -> Result<Front, Stop>
         requires running { self.old.stop ≡ None }
         requires sound { Sound self.old }
         requires owns { Owns (F.shelf files.old) self.old }
@@ -279,7 +279,7 @@ impl Engine {
 
     // An expansion of a token.
     #[cycle(expanding)]
-    fn expand<F: Files, T: Teller>(
+    pub(super) fn expand<F: Files, T: Teller>(
         &mut self,
         files: &mut F,
         tell: &mut T,
@@ -298,16 +298,17 @@ impl Engine {
     {
         self.begin()?;
         let gift = self.given(files, tell, token, found, deep)?;
-        self.finish(tell, token, gift)
+        self.end(tell, token, gift)
     }
 
     // Begins an expansion.
-    fn begin(&mut self) -> Result<(), Stop>
+    pub(super) fn begin(&mut self) -> Result<(), Stop>
         requires { self.old.stop ≡ None }
         ensures begins { Local begin result self.old self.new }
         ensures kept { self.new.stop ≡ stop_after result }
         ensures is { OnOk result (self.new ≡ record self.old { begun = self.old.begun + 1; nesting = self.old.nesting + 1 }) }
         ensures within { OnOk result (self.new.begun ≤ self.new.limit) }
+        ensures nested { OnOk result (self.new.nesting ≤ DEEPEST) }
         ensures progress { Progress self.old self.new }
         ensures limit { IsAtLimit result self.new }
         ensures files { SameFiles self.old self.new }
@@ -324,37 +325,93 @@ impl Engine {
         Ok(())
     }
 
-    // Ends an expansion, whose gift is put before what is to be read, and tells of it.
-    fn finish<T: Teller>(&mut self, tell: &mut T, token: Token, gift: Gift) -> Result<(), Stop>
+    // Ends an expansion with what it gives.
+    fn end<T: Teller>(&mut self, tell: &mut T, token: Token, gift: Gift) -> Result<(), Stop>
         requires running { self.old.stop ≡ None }
+        requires sound { Sound self.old }
         requires nested { 1 ≤ self.old.nesting }
         requires token { TokenWithin (length self.old.names) token }
         requires gift { GiftWithin (length self.old.names) gift }
         ensures finishes { (shelf : Shelf) → Meets (hears T.wanting T.heard) (hears_part T.wanting T.part)
             (finish (token_at self.old.names token) (gift_at self.old.names gift) (state_of shelf self.old)) result (state_of shelf self.new) tell.old tell.new }
         ensures stops { (shelf : Shelf) (faults : ℕ) → Stops result (outside shelf faults (T.faults tell.old) (T.loan tell.old)) (outside shelf faults (T.faults tell.new) (T.loan tell.new)) self.new.stop }
-        ensures kept { self.new.stop ≡ stop_after result }
-        ensures is { OnOk result (self.new ≡ record self.old { input = record self.old.input { sources = gift_sources gift ++ self.old.input.sources }; nesting = self.old.nesting - 1 }) }
+        ensures keeps { OnOk result (Kept self.old self.new) }
+        ensures nesting { OnOk result (self.new.nesting ≡ self.old.nesting - 1) }
+        ensures begun { OnOk result (self.new.begun ≡ self.old.begun) }
         ensures progress { Progress self.old self.new }
         ensures limit { IsAtLimit result self.new }
         ensures files { SameFiles self.old self.new }
     {
-        match self.put_gift(&gift) {
+        match gift {
+            Gift::Puts(list) => self.finish(tell, token, &list),
+            Gift::Freezes(kept) => self.finish_frozen(tell, token, kept),
+        }
+    }
+
+    // Ends an expansion, whose tokens are put before what is to be read, and tells of it.
+    fn finish<T: Teller>(&mut self, tell: &mut T, token: Token, list: &Tokens) -> Result<(), Stop>
+        requires running { self.old.stop ≡ None }
+        requires nested { 1 ≤ self.old.nesting }
+        requires token { TokenWithin (length self.old.names) token }
+        requires list { TokensWithin (length self.old.names) list.now }
+        ensures finishes { (shelf : Shelf) → Meets (hears T.wanting T.heard) (hears_part T.wanting T.part)
+            (finish (token_at self.old.names token) (Puts (tokens_at self.old.names list.now)) (state_of shelf self.old)) result (state_of shelf self.new) tell.old tell.new }
+        ensures stops { (shelf : Shelf) (faults : ℕ) → Stops result (outside shelf faults (T.faults tell.old) (T.loan tell.old)) (outside shelf faults (T.faults tell.new) (T.loan tell.new)) self.new.stop }
+        ensures kept { self.new.stop ≡ stop_after result }
+        ensures is { OnOk result (self.new ≡ record self.old { input = record self.old.input { sources = map Plain list.now ++ self.old.input.sources }; nesting = self.old.nesting - 1 }) }
+        ensures progress { Progress self.old self.new }
+        ensures limit { IsAtLimit result self.new }
+        ensures files { SameFiles self.old self.new }
+    {
+        match self.input.push_tokens(list) {
             Ok(()) => {
                 self.nesting -= 1;
-                self.tell_of(tell, token, &gift)
+                self.tell_of(tell, token, list)
+            }
+            Err(_) => Err(self.no_memory()),
+        }
+    }
+
+    // Ends an expansion, which puts a token that is kept from being expanded before what is to be read, and tells of it.
+    fn finish_frozen<T: Teller>(
+        &mut self,
+        tell: &mut T,
+        token: Token,
+        kept: Token,
+    ) -> Result<(), Stop>
+        requires running { self.old.stop ≡ None }
+        requires nested { 1 ≤ self.old.nesting }
+        requires token { TokenWithin (length self.old.names) token }
+        requires kept { TokenWithin (length self.old.names) kept }
+        ensures finishes { (shelf : Shelf) → Meets (hears T.wanting T.heard) (hears_part T.wanting T.part)
+            (finish (token_at self.old.names token) (Freezes (token_at self.old.names kept)) (state_of shelf self.old)) result (state_of shelf self.new) tell.old tell.new }
+        ensures stops { (shelf : Shelf) (faults : ℕ) → Stops result (outside shelf faults (T.faults tell.old) (T.loan tell.old)) (outside shelf faults (T.faults tell.new) (T.loan tell.new)) self.new.stop }
+        ensures kept { self.new.stop ≡ stop_after result }
+        ensures is { OnOk result (self.new ≡ record self.old { input = record self.old.input { sources = Marked kept ∷ self.old.input.sources }; nesting = self.old.nesting - 1 }) }
+        ensures progress { Progress self.old self.new }
+        ensures limit { IsAtLimit result self.new }
+        ensures files { SameFiles self.old self.new }
+    {
+        let list = match Tokens::from_slice(self.alloc, &[kept]) {
+            Ok(list) => list,
+            Err(_) => return Err(self.no_memory()),
+        };
+        match self.input.back(kept, true) {
+            Ok(()) => {
+                self.nesting -= 1;
+                self.tell_of(tell, token, &list)
             }
             Err(_) => Err(self.no_memory()),
         }
     }
 
     // Tells of an expansion, where that is wanted.
-    fn tell_of<T: Teller>(&mut self, tell: &mut T, token: Token, gift: &Gift) -> Result<(), Stop>
+    pub(super) fn tell_of<T: Teller>(&mut self, tell: &mut T, token: Token, list: &Tokens) -> Result<(), Stop>
         requires running { self.old.stop ≡ None }
         requires token { TokenWithin (length self.old.names) token }
-        requires gift { GiftWithin (length self.old.names) gift.now }
+        requires list { TokensWithin (length self.old.names) list.now }
         ensures told { (shelf : Shelf) → Meets (hears T.wanting T.heard) (hears_part T.wanting T.part)
-            (spec_tell (record_of (token_at self.old.names token) (tokens_of (gift_at self.old.names gift.now))) (state_of shelf self.old)) result (state_of shelf self.new) tell.old tell.new }
+            (spec_tell (record_of (token_at self.old.names token) (tokens_at self.old.names list.now)) (state_of shelf self.old)) result (state_of shelf self.new) tell.old tell.new }
         ensures stops { (shelf : Shelf) (faults : ℕ) → Stops result (outside shelf faults (T.faults tell.old) (T.loan tell.old)) (outside shelf faults (T.faults tell.new) (T.loan tell.new)) self.new.stop }
         ensures kept { self.new.stop ≡ stop_after result }
         ensures same { OnOk result (self.new ≡ self.old) }
@@ -365,7 +422,7 @@ impl Engine {
         if !tell.wants() {
             return Ok(());
         }
-        let news = match self.record_of(token, gift) {
+        let news = match self.record_of(token, list) {
             Ok(news) => news,
             Err(_) => return Err(self.no_memory()),
         };
@@ -379,48 +436,21 @@ impl Engine {
         }
     }
 
-    // What an expansion gives is put before what is to be read.
-    fn put_gift(&mut self, gift: &Gift) -> Result<(), AllocError>
-        ensures ok { OnOk result (self.new ≡ record self.old { input = record self.old.input { sources = gift_sources gift.now ++ self.old.input.sources } }) }
-        ensures err { OnErr result (self.new ≡ self.old) }
-    {
-        match gift {
-            Gift::Puts(list) => self.input.push_tokens(list),
-            Gift::Freezes(token) => self.input.back(*token, true),
-        }
-    }
-
     // The record of an expansion.
-    fn record_of(&self, token: Token, gift: &Gift) -> Result<Record, AllocError>
+    fn record_of(&self, token: Token, list: &Tokens) -> Result<Record, AllocError>
         requires token { TokenWithin (length self.now.names) token }
-        requires gift { GiftWithin (length self.now.names) gift.now }
-        ensures { IfOk result (λ news. news ≡ record_of (token_at self.now.names token) (tokens_of (gift_at self.now.names gift.now))) }
+        requires list { TokensWithin (length self.now.names) list.now }
+        ensures { IfOk result (λ news. news ≡ record_of (token_at self.now.names token) (tokens_at self.now.names list.now)) }
     {
         let mut spelled = Bytes::new(self.alloc);
         spell(token, ESCAPE, &self.names, &mut spelled)?;
-        let shown = self.shown_gift(gift)?;
+        let mut shown = Bytes::new(self.alloc);
+        show(list, &self.names, &mut shown)?;
         Ok(Record {
             token: spelled,
             put: shown,
             file: Bytes::new(self.alloc),
         })
-    }
-
-    // What an expansion gives, as it is told.
-    fn shown_gift(&self, gift: &Gift) -> Result<Bytes, AllocError>
-        requires { GiftWithin (length self.now.names) gift.now }
-        ensures { IfOk result (λ text. text ≡ encode_utf8_all (shown_text (tokens_of (gift_at self.now.names gift.now)))) }
-    {
-        let mut text = Bytes::new(self.alloc);
-        match gift {
-            Gift::Puts(list) => show(list, &self.names, &mut text)?,
-            Gift::Freezes(token) => {
-                let mut list = Tokens::new(self.alloc);
-                list.push(*token)?;
-                show(&list, &self.names, &mut text)?
-            }
-        }
-        Ok(text)
     }
 
     // What an expansion gives.
@@ -449,26 +479,74 @@ impl Engine {
                 Ok(Gift::Puts(list))
             }
             Expandable::Number => {
-                let value = self.int(files, tell, deep)?;
-                let list = self.number(value)?;
+                let list = self.decimal(files, tell, deep)?;
                 Ok(Gift::Puts(list))
             }
             Expandable::RomanNumeral => {
-                let value = self.int(files, tell, deep)?;
-                let list = self.roman_numeral(value)?;
+                let list = self.roman(files, tell, deep)?;
                 Ok(Gift::Puts(list))
             }
             Expandable::The => {
                 let list = self.the(files, tell, deep)?;
                 Ok(Gift::Puts(list))
             }
+            Expandable::ExpandAfter => self.expand_after(files, tell, deep),
+            Expandable::NoExpand => self.no_expand(files),
+            Expandable::CsName => self.cs_name(files, tell, deep),
+            Expandable::String => {
+                let list = self.string(files)?;
+                Ok(Gift::Puts(list))
+            }
+            Expandable::JobName => {
+                let list = self.job()?;
+                Ok(Gift::Puts(list))
+            }
             Expandable::Conditional(test) => self.conditional(files, tell, test, deep),
             Expandable::PartEnd(word) => self.part_end(files, token, word),
-            _ => Err(self.no_memory()),
         }
     }
 
-    // What `\the` gives: the quantity or the list of tokens that begins with the next token.
+    // What `\number` gives: the digits of a number.
+    #[cycle(expanding)]
+    fn decimal<F: Files, T: Teller>(
+        &mut self,
+        files: &mut F,
+        tell: &mut T,
+        deep: usize,
+    ) -> Result<Tokens, Stop>
+        requires running { self.old.stop ≡ None }
+        requires sound { Sound self.old }
+        requires owns { Owns (F.shelf files.old) self.old }
+        ensures does { Does (hears T.wanting T.heard) (hears_part T.wanting T.part)
+            (λ n. spec_decimal (level n)) (ok_at (tokens_at self.new.names) result) self.old self.new (outside (F.shelf files.old) (F.faults files.old) (T.faults tell.old) (T.loan tell.old)) (outside (F.shelf files.new) (F.faults files.new) (T.faults tell.new) (T.loan tell.new)) tell.old tell.new }
+        ensures lower { OnOk result (Shrinks 0 (F.shelf files.old) self.old (F.shelf files.new) self.new) }
+        ensures within { IfOk result (TokensWithin (length self.new.names)) }
+    {
+        let value = self.int(files, tell, deep)?;
+        self.number(value)
+    }
+
+    // What `\romannumeral` gives: a number in Roman numerals.
+    #[cycle(expanding)]
+    fn roman<F: Files, T: Teller>(
+        &mut self,
+        files: &mut F,
+        tell: &mut T,
+        deep: usize,
+    ) -> Result<Tokens, Stop>
+        requires running { self.old.stop ≡ None }
+        requires sound { Sound self.old }
+        requires owns { Owns (F.shelf files.old) self.old }
+        ensures does { Does (hears T.wanting T.heard) (hears_part T.wanting T.part)
+            (λ n. spec_roman (level n)) (ok_at (tokens_at self.new.names) result) self.old self.new (outside (F.shelf files.old) (F.faults files.old) (T.faults tell.old) (T.loan tell.old)) (outside (F.shelf files.new) (F.faults files.new) (T.faults tell.new) (T.loan tell.new)) tell.old tell.new }
+        ensures lower { OnOk result (Shrinks 0 (F.shelf files.old) self.old (F.shelf files.new) self.new) }
+        ensures within { IfOk result (TokensWithin (length self.new.names)) }
+    {
+        let value = self.int(files, tell, deep)?;
+        self.roman_numeral(value)
+    }
+
+    // What `\the` gives.
     #[cycle(expanding)]
     fn the<F: Files, T: Teller>(
         &mut self,
@@ -484,6 +562,26 @@ impl Engine {
         ensures lower { OnOk result (Shrinks 0 (F.shelf files.old) self.old (F.shelf files.new) self.new) }
         ensures within { IfOk result (TokensWithin (length self.new.names)) }
     {
+        let internal = self.next_internal(files, tell, deep)?;
+        self.shown(internal)
+    }
+
+    // The quantity or the list of tokens that begins with the next token.
+    #[cycle(expanding)]
+    pub(super) fn next_internal<F: Files, T: Teller>(
+        &mut self,
+        files: &mut F,
+        tell: &mut T,
+        deep: usize,
+    ) -> Result<Internal, Stop>
+        requires running { self.old.stop ≡ None }
+        requires sound { Sound self.old }
+        requires owns { Owns (F.shelf files.old) self.old }
+        ensures does { Does (hears T.wanting T.heard) (hears_part T.wanting T.part)
+            (λ n. spec_next_internal (level n)) (ok_at (internal_at self.new.names) result) self.old self.new (outside (F.shelf files.old) (F.faults files.old) (T.faults tell.old) (T.loan tell.old)) (outside (F.shelf files.new) (F.faults files.new) (T.faults tell.new) (T.loan tell.new)) tell.old tell.new }
+        ensures lower { OnOk result (Shrinks 0 (F.shelf files.old) self.old (F.shelf files.new) self.new) }
+        ensures within { IfOk result (InternalWithin (length self.new.names)) }
+    {
         let looked = match self.next_looked(files, tell, false, deep)? {
             Some(looked) => looked,
             None => return Err(self.bare_fault(fault_code::FILE_ENDED)),
@@ -492,8 +590,7 @@ impl Engine {
             Ok(meaning) => meaning,
             Err(_) => return Err(self.no_memory()),
         };
-        let internal = self.internal(files, tell, &meaning, deep)?;
-        self.shown(internal)
+        self.internal(files, tell, &meaning, deep)
     }
 
     // The next token, as it stands or expanded, and what it counts as.
@@ -540,17 +637,27 @@ impl Engine {
         ensures one { IfOk result (λ o. length (option_to_list o) ≡ 1) }
         ensures within { IfOk result (OptionWithin (LookedWithin (length self.new.names))) }
     {
-        if !read.frozen {
-            return Ok(Some(as_itself(read)));
+        match self.counts_as(read) {
+            Ok(counts) => Ok(Some(Looked {
+                token: read.token,
+                counts,
+            })),
+            Err(_) => Err(self.no_memory()),
         }
-        let meaning = match self.meaning(read.token) {
-            Ok(meaning) => meaning,
-            Err(_) => return Err(self.no_memory()),
-        };
-        Ok(Some(Looked {
-            token: read.token,
-            counts: frozen_as(read.token, meaning),
-        }))
+    }
+
+    // What a token that was taken counts as.
+    pub(super) fn counts_as(&self, read: Read) -> Result<Token, AllocError>
+        requires sound { Sound self.now }
+        requires token { TokenWithin (length self.now.names) read.token }
+        ensures is { IfOk result (λ t. token_at self.now.names t ≡ spec_counts_as (world_in self.now) (read_at self.now.names read)) }
+        ensures within { IfOk result (TokenWithin (length self.now.names)) }
+    {
+        if !read.frozen {
+            return Ok(read.token);
+        }
+        let meaning = self.meaning(read.token)?;
+        Ok(frozen_as(read.token, meaning))
     }
 
     // What a scanner reads: the shortest list of tokens that decides. Those that aren't part of it go back.

@@ -1,11 +1,12 @@
-use Rattle.std.proofs.Common.{arith, [], FitsSigned, w32, refl, sym, ap, subst, ◌∙◌, rules, pos, true, false, None, Some, Ok, Err, ◌∷◌, List, ◌≡◌}
+use Rattle.std.proofs.Common.{arith, length, [], FitsSigned, w32, refl, sym, ap, subst, ◌∙◌, rules, pos, true, false, None, Some, Ok, Err, ◌∷◌, List, ◌≡◌}
 use Rattle.std.specs.Fmt.{signed_decimal}
 use Rattle.std.proofs.lemmas.Int.{to_z-of_z}
+use Rattle.std.proofs.Common.{◌==◌, to_z, of_z}
 use Rattle.texml_expand.specs.Contract.{outside, Local}
 use Rattle.texml_token.specs.Numbers.{Extends, token_at, tokens_at}
 use Rattle.texml_token.proofs.Translation.{token_kept}
 use Rattle.texml_expand.specs.Held.{Held, state_of, ok_at, read_at}
-use Rattle.texml_expand.specs.Fronts.{macro_at, expandable_at, looked_at}
+use Rattle.texml_expand.specs.Fronts.{macro_at, expandable_at, looked_at, ExpandableWithin}
 use Rattle.texml_expand.specs.declared.variables.Index.TheVariants.{Character, Register}
 use Rattle.texml_expand.specs.State.{give}
 use Rattle.texml_expand.specs.Calls.{Call}
@@ -15,8 +16,7 @@ use Rattle.texml_expand.specs.Quantities.{int_text, read_index, look, read_key, 
 use Rattle.texml_expand.specs.Expand.{front, given, level}
 use Rattle.texml_expand.specs.Hearing.{hears, hears_part}
 use Rattle.texml_expand.proofs.Lawful.{lawful_give, lawful_scan, lawful_fetch}
-use Rattle.texml_expand.proofs.Looking.{lawful_character, lawful_register, value, lawful_value, lawful_index, lawful_look, lawful_key, lawful_internal_of, lawful_internal, counts, lawful_counts, lawful_take, shown_now, lawful_shown_now}
-use Rattle.texml_expand.proofs.Levels.{lawful_given}
+use Rattle.texml_expand.proofs.Looking.{lawful_character, lawful_register, value, lawful_value, lawful_index, lawful_look, lawful_key, lawful_internal_of, lawful_internal, counts, lawful_counts, lawful_take}
 use Rattle.texml_expand.proofs.Doing.{by_new, did_silent, did_gets, does_silent, does_gets, does_as, does_now, does_stop, does_then, does_out, does_fault, did_out}
 use Rattle.texml_expand.proofs.Rounds.{index_as, front_did, given_as, begins_did, finish_did, expand_stops, expand_ungiven, expand_ends, fetch_stops, fetch_ends, fetch_plain, fetching_on, fetch_unexpanded, looked_as}
 use Rattle.texml_scope.specs.Numbers.{key_at, meaning_at}
@@ -31,14 +31,31 @@ use Rattle.texml_expand.specs.Take.{take}
 use Rattle.texml_expand.specs.Doing.{Does}
 use Rattle.texml_expand.proofs.Total.{total}
 use Rattle.texml_expand.proofs.Progress.{progress_itself}
-use Rattle.texml_expand.proofs.Fronts.{kept_itself}
+use Rattle.texml_expand.proofs.Fronts.{kept_itself, begun_kept}
 use Rattle.texml_scan.specs.Looked.{look_of}
 use Rattle.texml_scan.specs.declared.looks.Held.TheVariants.{Nothing}
-use Rattle.texml_expand.proofs.Running.{shrinks_none, shrinks_then, files_same}
-use Rattle.texml_expand.proofs.Showing.{the_stops, the_ends, the_behind, shown_stops, shown_then}
+use Rattle.texml_expand.proofs.Stopping.{passed_on}
+use Rattle.texml_expand.proofs.Running.{shrinks_none, shrinks_then, files_same, ok_same, owns_same}
+use Rattle.texml_expand.proofs.Showing.{internal_stops, internal_ends, internal_out, internal_begins, the_stops, the_does}
 use Rattle.texml_scan.specs.declared.looks.Look.{Look}
 use Rattle.texml_scan.specs.Grammar.{verdict}
 use Rattle.texml_expand.proofs.Worth.{scan_stop, scan_of, scan_gives, gives_of, int_same}
+use Rattle.texml_expand.specs.Branches.{choose, choose_case}
+use Rattle.texml_expand.specs.Branches.{If, IfCat, IfX, IfNum, IfDim, IfOdd, IfTrue, IfFalse, IfCase}
+use Rattle.texml_expand.specs.Arguments.{called}
+use Rattle.texml_expand.specs.Quantities.{dimension_text, the}
+use Rattle.texml_expand.specs.Expansion.{string, job, no_expand}
+use Rattle.texml_expand.specs.Expand.{decimal, roman_numeral}
+use Rattle.texml_expand.specs.Conditionals.{two_faces, same_meanings, compares, compared, number, is_odd, open_test, chosen, part_end}
+use Rattle.texml_expand.proofs.Calling.{called_decided, called_leads}
+use Rattle.texml_expand.proofs.Lawful.{lawful_silent}
+use Rattle.texml_expand.proofs.Levels.{lawful_decimal, lawful_roman_numeral}
+use Rattle.texml_expand.proofs.Looking.{lawful_the}
+use Rattle.texml_expand.proofs.Giving.{lawful_string, lawful_job, lawful_no_expand}
+use Rattle.texml_expand.proofs.Branching.{lawful_two_faces, lawful_same_meanings, lawful_compared, lawful_number, lawful_open_test, lawful_chosen, lawful_part_end}
+use Rattle.texml_expand.proofs.Gifts.{puts_stops, puts_does, ended_begun}
+use Rattle.texml_expand.proofs.Testing.{face_stops, face_ends, face_out, face_does, faces_stop, faces_do, first_face_stops, dimension_stops, dimension_does, amount_as, relation_stops, relation_does, compared_first, compared_second, compared_third, compared_does, choice_stops, choice_does, tested_as, unopened, untested, unchosen, conditional_does}
+use Rattle.texml_expand.proofs.Worth.{dimen_same}
 use Rattle.texml_expand.proofs.engine.Engine.+expanding.Goals as goal
 
 pub expand-returns-clause-does : goal.expand-returns-clause-does
@@ -46,16 +63,23 @@ expand-returns-clause-does g t c =
     let T = g.T.Teller in
     let F = g.F.Files in
     let b = c.in_ok-begin.ensures in
-    let l = c.in_ok-list.ensures in
-    let e = c.finish.ensures in
+    let l = c.in_ok-gift.ensures in
+    let e = c.end.ensures in
     let mine = c.args.self.now in
     let now = c.given.new.self in
     let d = begins_did (hears T.wanting T.heard) (hears_part T.wanting T.part) _ mine c.begin.new.self (outside (F.shelf c.args.files.now) (F.faults c.args.files.now) (T.faults c.args.tell.now) (T.loan c.args.tell.now)) c.args.tell.now c.requires.sound b.begins b.kept b.is b.within b.limit b.progress b.files c.requires.owns in
     let same = ap (λ (h : Held). expandable_at h.names c.args.found) (sym b.is) in
-    let k = given_as (hears T.wanting T.heard) (hears_part T.wanting T.part) _ (expandable_at mine.names c.args.found) _ _ _ _ _ _ _ same l.does in
+    let named = ap (λ (h : Held). token_at h.names c.args.token) (sym b.is) in
+    let k = given_as (hears T.wanting T.heard) (hears_part T.wanting T.part) _ (token_at mine.names c.args.token) _ (expandable_at mine.names c.args.found) _ _ _ _ _ _ _ named same l.does in
     let names = subst (λ (h : Held). Extends h.names now.names) b.is l.does.progress.names in
-    let u = finish_did (hears T.wanting T.heard) (hears_part T.wanting T.part) (token_at mine.names c.args.token) _ c.in_ok-list.list _ now c.finish.new.self _ _ _ _ _ _ _ _ l.does.keeps.sound l.within (token_kept mine.names now.names names c.args.token c.requires.token) e.finishes e.stops e.is e.limit e.progress e.files l.does.holds.owns in
+    let u = finish_did (hears T.wanting T.heard) (hears_part T.wanting T.part) (token_at mine.names c.args.token) _ c.in_ok-gift.gift _ now c.end.new.self _ _ _ _ _ _ _ _ (token_kept mine.names now.names names c.args.token c.requires.token) e.finishes e.stops e.keeps e.limit e.progress e.files l.does.holds.owns in
     expand_ends (hears T.wanting T.heard) (hears_part T.wanting T.part) (token_at mine.names c.args.token) (expandable_at mine.names c.args.found) _ _ _ _ _ _ _ _ _ _ _ _ d k u
+
+pub expand-returns-clause-begins : goal.expand-returns-clause-begins
+expand-returns-clause-begins g t c =
+    let b = c.in_ok-begin.ensures in
+    let e = c.end.ensures in
+    ended_begun _ _ c.args.self.now c.begin.new.self c.given.new.self c.end.new.self _ b.is b.within c.in_ok-gift.ensures.lower e.nesting e.begun e.progress.limit
 
 pub expand-returns-in_err-begin-clause-does : goal.expand-returns-in_err-begin-clause-does
 expand-returns-in_err-begin-clause-does g t c =
@@ -67,15 +91,16 @@ expand-returns-in_err-begin-clause-does g t c =
     let h = expand_stops (hears T.wanting T.heard) (hears_part T.wanting T.part) (token_at mine.names c.args.token) (expandable_at mine.names c.args.found) _ _ _ _ _ d in
     search (rules, h)
 
-pub expand-returns-in_err-list-clause-does : goal.expand-returns-in_err-list-clause-does
-expand-returns-in_err-list-clause-does g t c =
+pub expand-returns-in_err-gift-clause-does : goal.expand-returns-in_err-gift-clause-does
+expand-returns-in_err-gift-clause-does g t c =
     let T = g.T.Teller in
     let F = g.F.Files in
     let b = c.in_ok-begin.ensures in
     let mine = c.args.self.now in
     let d = begins_did (hears T.wanting T.heard) (hears_part T.wanting T.part) _ mine c.begin.new.self (outside (F.shelf c.args.files.now) (F.faults c.args.files.now) (T.faults c.args.tell.now) (T.loan c.args.tell.now)) c.args.tell.now c.requires.sound b.begins b.kept b.is b.within b.limit b.progress b.files c.requires.owns in
     let same = ap (λ (h : Held). expandable_at h.names c.args.found) (sym b.is) in
-    let k = given_as (hears T.wanting T.heard) (hears_part T.wanting T.part) _ (expandable_at mine.names c.args.found) _ _ _ _ _ _ _ same c.in_err-list.ensures.does in
+    let named = ap (λ (h : Held). token_at h.names c.args.token) (sym b.is) in
+    let k = given_as (hears T.wanting T.heard) (hears_part T.wanting T.part) _ (token_at mine.names c.args.token) _ (expandable_at mine.names c.args.found) _ _ _ _ _ _ _ named same c.in_err-gift.ensures.does in
     let h = expand_ungiven (hears T.wanting T.heard) (hears_part T.wanting T.part) (token_at mine.names c.args.token) (expandable_at mine.names c.args.found) _ _ _ _ _ _ _ _ d k in
     search (rules, h)
 
@@ -122,31 +147,15 @@ fetch_on-returns-in_err-front-clause-does g t c =
     let h = fetch_stops (hears T.wanting T.heard) (hears_part T.wanting T.part) _ _ _ _ _ _ _ _ _ c.fronts.invariant d in
     search (rules, h)
 
-pub given-returns-in-Call-clause-does : goal.given-returns-in-Call-clause-does
-given-returns-in-Call-clause-does g t c =
-    let T = g.T.Teller in
-    let m = macro_at c.args.self.now.names c.in-Call.found in
-    let d = does_gets (hears T.wanting T.heard) (hears_part T.wanting T.part) (λ c. given c (Call m)) (lawful_given (Call m)) _ c.args.self.now c.called.new.self _ _ _ _ (T.faults c.args.tell.now) (T.loan c.args.tell.now) c.args.tell.now c.called.ensures.gets in
-    rw c.in-Call.is d
-
-pub given-returns-in_err-value-in-Number-clause-does : goal.given-returns-in_err-value-in-Number-clause-does
-given-returns-in_err-value-in-Number-clause-does g t c =
+pub decimal-returns-in_err-value-clause-does : goal.decimal-returns-in_err-value-clause-does
+decimal-returns-in_err-value-clause-does g t c =
     let T = g.T.Teller in
     let F = g.F.Files in
-    let d = does_stop (hears T.wanting T.heard) (hears_part T.wanting T.part) (λ c. c.scan int_text []) (λ i c. give (printed_tokens (signed_decimal i))) (lawful_scan int_text) (λ i. lawful_give (printed_tokens (signed_decimal i))) _ _ _ _ _ _ _ c.in_err-value-in-Number.ensures.does in
-    let h = given_as (hears T.wanting T.heard) (hears_part T.wanting T.part) _ (expandable_at c.args.self.now.names c.args.found) _ _ _ _ _ _ _ (ap (expandable_at c.args.self.now.names) c.in-Number.is) d in
-    search (rules, h)
+    let d = does_stop (hears T.wanting T.heard) (hears_part T.wanting T.part) (λ c. c.scan int_text []) (λ i c. give (printed_tokens (signed_decimal i))) (lawful_scan int_text) (λ i. lawful_give (printed_tokens (signed_decimal i))) _ _ _ _ _ _ _ c.in_err-value.ensures.does in
+    search (rules, d)
 
-pub given-returns-in_err-value-in-RomanNumeral-clause-does : goal.given-returns-in_err-value-in-RomanNumeral-clause-does
-given-returns-in_err-value-in-RomanNumeral-clause-does g t c =
-    let T = g.T.Teller in
-    let F = g.F.Files in
-    let d = does_stop (hears T.wanting T.heard) (hears_part T.wanting T.part) (λ c. c.scan int_text []) (λ i c. give (printed_tokens (roman_text i))) (lawful_scan int_text) (λ i. lawful_give (printed_tokens (roman_text i))) _ _ _ _ _ _ _ c.in_err-value-in-RomanNumeral.ensures.does in
-    let h = given_as (hears T.wanting T.heard) (hears_part T.wanting T.part) _ (expandable_at c.args.self.now.names c.args.found) _ _ _ _ _ _ _ (ap (expandable_at c.args.self.now.names) c.in-RomanNumeral.is) d in
-    search (rules, h)
-
-pub given-returns-in_ok-value-in-Number-clause-does : goal.given-returns-in_ok-value-in-Number-clause-does
-given-returns-in_ok-value-in-Number-clause-does g t c =
+pub decimal-returns-clause-does : goal.decimal-returns-clause-does
+decimal-returns-clause-does g t c =
     let T = g.T.Teller in
     let F = g.F.Files in
     let e = c.number.ensures in
@@ -154,24 +163,185 @@ given-returns-in_ok-value-in-Number-clause-does g t c =
     let new = c.number.new.self in
     let tell = c.int.new.tell in
     let files = c.int.new.files in
-    let i = c.in_ok-value-in-Number.value in
+    let i = c.in_ok-value.value in
     let fits : FitsSigned w32 i = search rules in
-    let d = does_as (hears T.wanting T.heard) (hears_part T.wanting T.part) (tokens_at new.names) (λ c. give (printed_tokens (signed_decimal i))) (lawful_give (printed_tokens (signed_decimal i))) c.number.result mid new (outside (F.shelf files) (F.faults files) (T.faults tell) (T.loan tell)) tell (by_new tokens_at _ _ mid new (subst (λ z. Local (give (printed_tokens (signed_decimal z))) (ok_at (tokens_at mid.names) c.number.result) mid new) (to_z-of_z w32 i fits) e.writes) e.same) e.kept e.limit e.keeps e.progress e.files c.in_ok-value-in-Number.ensures.does.holds.owns in
-    rw c.in-Number.is (does_then (hears T.wanting T.heard) (hears_part T.wanting T.part) (λ c. c.scan int_text []) (λ i c. give (printed_tokens (signed_decimal i))) (lawful_scan int_text) (λ i. lawful_give (printed_tokens (signed_decimal i))) i _ _ _ _ _ _ _ _ _ _ c.in_ok-value-in-Number.ensures.does d)
+    let d = does_as (hears T.wanting T.heard) (hears_part T.wanting T.part) (tokens_at new.names) (λ c. give (printed_tokens (signed_decimal i))) (lawful_give (printed_tokens (signed_decimal i))) c.number.result mid new (outside (F.shelf files) (F.faults files) (T.faults tell) (T.loan tell)) tell (by_new tokens_at (give (printed_tokens (signed_decimal i))) c.number.result mid new (subst (λ z. Local (give (printed_tokens (signed_decimal z))) (ok_at (tokens_at mid.names) c.number.result) mid new) (to_z-of_z w32 i fits) e.writes) e.same) e.kept e.limit e.keeps e.progress e.files c.in_ok-value.ensures.does.holds.owns in
+    (does_then (hears T.wanting T.heard) (hears_part T.wanting T.part) (λ c. c.scan int_text []) (λ i c. give (printed_tokens (signed_decimal i))) (lawful_scan int_text) (λ i. lawful_give (printed_tokens (signed_decimal i))) i _ _ _ _ _ _ _ _ _ _ c.in_ok-value.ensures.does d)
 
-pub given-returns-in_ok-value-in-RomanNumeral-clause-does : goal.given-returns-in_ok-value-in-RomanNumeral-clause-does
-given-returns-in_ok-value-in-RomanNumeral-clause-does g t c =
+pub roman-returns-in_err-value-clause-does : goal.roman-returns-in_err-value-clause-does
+roman-returns-in_err-value-clause-does g t c =
+    let T = g.T.Teller in
+    let F = g.F.Files in
+    let d = does_stop (hears T.wanting T.heard) (hears_part T.wanting T.part) (λ c. c.scan int_text []) (λ i c. give (printed_tokens (roman_text i))) (lawful_scan int_text) (λ i. lawful_give (printed_tokens (roman_text i))) _ _ _ _ _ _ _ c.in_err-value.ensures.does in
+    search (rules, d)
+
+pub roman-returns-clause-does : goal.roman-returns-clause-does
+roman-returns-clause-does g t c =
     let T = g.T.Teller in
     let F = g.F.Files in
     let e = c.roman_numeral.ensures in
-    let mid = c.int-in-RomanNumeral.new.self in
+    let mid = c.int.new.self in
     let new = c.roman_numeral.new.self in
-    let tell = c.int-in-RomanNumeral.new.tell in
-    let files = c.int-in-RomanNumeral.new.files in
-    let i = c.in_ok-value-in-RomanNumeral.value in
+    let tell = c.int.new.tell in
+    let files = c.int.new.files in
+    let i = c.in_ok-value.value in
     let fits : FitsSigned w32 i = search rules in
-    let d = does_as (hears T.wanting T.heard) (hears_part T.wanting T.part) (tokens_at new.names) (λ c. give (printed_tokens (roman_text i))) (lawful_give (printed_tokens (roman_text i))) c.roman_numeral.result mid new (outside (F.shelf files) (F.faults files) (T.faults tell) (T.loan tell)) tell (by_new tokens_at _ _ mid new (subst (λ z. Local (give (printed_tokens (roman_text z))) (ok_at (tokens_at mid.names) c.roman_numeral.result) mid new) (to_z-of_z w32 i fits) e.writes) e.same) e.kept e.limit e.keeps e.progress e.files c.in_ok-value-in-RomanNumeral.ensures.does.holds.owns in
-    rw c.in-RomanNumeral.is (does_then (hears T.wanting T.heard) (hears_part T.wanting T.part) (λ c. c.scan int_text []) (λ i c. give (printed_tokens (roman_text i))) (lawful_scan int_text) (λ i. lawful_give (printed_tokens (roman_text i))) i _ _ _ _ _ _ _ _ _ _ c.in_ok-value-in-RomanNumeral.ensures.does d)
+    let d = does_as (hears T.wanting T.heard) (hears_part T.wanting T.part) (tokens_at new.names) (λ c. give (printed_tokens (roman_text i))) (lawful_give (printed_tokens (roman_text i))) c.roman_numeral.result mid new (outside (F.shelf files) (F.faults files) (T.faults tell) (T.loan tell)) tell (by_new tokens_at (give (printed_tokens (roman_text i))) c.roman_numeral.result mid new (subst (λ z. Local (give (printed_tokens (roman_text z))) (ok_at (tokens_at mid.names) c.roman_numeral.result) mid new) (to_z-of_z w32 i fits) e.writes) e.same) e.kept e.limit e.keeps e.progress e.files c.in_ok-value.ensures.does.holds.owns in
+    (does_then (hears T.wanting T.heard) (hears_part T.wanting T.part) (λ c. c.scan int_text []) (λ i c. give (printed_tokens (roman_text i))) (lawful_scan int_text) (λ i. lawful_give (printed_tokens (roman_text i))) i _ _ _ _ _ _ _ _ _ _ c.in_ok-value.ensures.does d)
+
+pub given-returns-in_err-list-in-Call-clause-does : goal.given-returns-in_err-list-in-Call-clause-does
+given-returns-in_err-list-in-Call-clause-does g t c =
+    let T = g.T.Teller in
+    let F = g.F.Files in
+    let mine = c.args.self.now in
+    let tok = token_at mine.names c.args.token in
+    let d = puts_stops (hears T.wanting T.heard) (hears_part T.wanting T.part) (λ c'. called (macro_at mine.names c.in-Call.found)) (lawful_silent (called (macro_at mine.names c.in-Call.found)) (called_decided (macro_at mine.names c.in-Call.found)) (called_leads (macro_at mine.names c.in-Call.found))) _ _ _ _ _ _ _ (does_gets (hears T.wanting T.heard) (hears_part T.wanting T.part) (λ c'. called (macro_at mine.names c.in-Call.found)) (lawful_silent (called (macro_at mine.names c.in-Call.found)) (called_decided (macro_at mine.names c.in-Call.found)) (called_leads (macro_at mine.names c.in-Call.found))) _ mine c.called.new.self _ _ _ _ (T.faults c.args.tell.now) (T.loan c.args.tell.now) c.args.tell.now c.in_err-list-in-Call.ensures.gets) in
+    let h = given_as (hears T.wanting T.heard) (hears_part T.wanting T.part) tok tok _ (expandable_at mine.names c.args.found) _ _ _ _ _ _ _ refl (ap (expandable_at mine.names) c.in-Call.is) d in
+    search (rules, h)
+
+pub given-returns-in-Call-clause-does : goal.given-returns-in-Call-clause-does
+given-returns-in-Call-clause-does g t c =
+    let T = g.T.Teller in
+    let F = g.F.Files in
+    let mine = c.args.self.now in
+    let tok = token_at mine.names c.args.token in
+    let d = puts_does (hears T.wanting T.heard) (hears_part T.wanting T.part) (λ c'. called (macro_at mine.names c.in-Call.found)) (lawful_silent (called (macro_at mine.names c.in-Call.found)) (called_decided (macro_at mine.names c.in-Call.found)) (called_leads (macro_at mine.names c.in-Call.found))) _ _ _ _ _ _ _ (does_gets (hears T.wanting T.heard) (hears_part T.wanting T.part) (λ c'. called (macro_at mine.names c.in-Call.found)) (lawful_silent (called (macro_at mine.names c.in-Call.found)) (called_decided (macro_at mine.names c.in-Call.found)) (called_leads (macro_at mine.names c.in-Call.found))) _ mine c.called.new.self _ _ _ _ (T.faults c.args.tell.now) (T.loan c.args.tell.now) c.args.tell.now c.in_ok-list-in-Call.ensures.gets) in
+    given_as (hears T.wanting T.heard) (hears_part T.wanting T.part) tok tok _ (expandable_at mine.names c.args.found) _ _ _ _ _ _ _ refl (ap (expandable_at mine.names) c.in-Call.is) d
+
+pub given-returns-in_err-list-in-Number-clause-does : goal.given-returns-in_err-list-in-Number-clause-does
+given-returns-in_err-list-in-Number-clause-does g t c =
+    let T = g.T.Teller in
+    let F = g.F.Files in
+    let mine = c.args.self.now in
+    let tok = token_at mine.names c.args.token in
+    let d = puts_stops (hears T.wanting T.heard) (hears_part T.wanting T.part) decimal lawful_decimal _ _ _ _ _ _ _ c.in_err-list-in-Number.ensures.does in
+    let h = given_as (hears T.wanting T.heard) (hears_part T.wanting T.part) tok tok _ (expandable_at mine.names c.args.found) _ _ _ _ _ _ _ refl (ap (expandable_at mine.names) c.in-Number.is) d in
+    search (rules, h)
+
+pub given-returns-in-Number-clause-does : goal.given-returns-in-Number-clause-does
+given-returns-in-Number-clause-does g t c =
+    let T = g.T.Teller in
+    let F = g.F.Files in
+    let mine = c.args.self.now in
+    let tok = token_at mine.names c.args.token in
+    let d = puts_does (hears T.wanting T.heard) (hears_part T.wanting T.part) decimal lawful_decimal _ _ _ _ _ _ _ c.in_ok-list-in-Number.ensures.does in
+    given_as (hears T.wanting T.heard) (hears_part T.wanting T.part) tok tok _ (expandable_at mine.names c.args.found) _ _ _ _ _ _ _ refl (ap (expandable_at mine.names) c.in-Number.is) d
+
+pub given-returns-in_err-list-in-RomanNumeral-clause-does : goal.given-returns-in_err-list-in-RomanNumeral-clause-does
+given-returns-in_err-list-in-RomanNumeral-clause-does g t c =
+    let T = g.T.Teller in
+    let F = g.F.Files in
+    let mine = c.args.self.now in
+    let tok = token_at mine.names c.args.token in
+    let d = puts_stops (hears T.wanting T.heard) (hears_part T.wanting T.part) roman_numeral lawful_roman_numeral _ _ _ _ _ _ _ c.in_err-list-in-RomanNumeral.ensures.does in
+    let h = given_as (hears T.wanting T.heard) (hears_part T.wanting T.part) tok tok _ (expandable_at mine.names c.args.found) _ _ _ _ _ _ _ refl (ap (expandable_at mine.names) c.in-RomanNumeral.is) d in
+    search (rules, h)
+
+pub given-returns-in-RomanNumeral-clause-does : goal.given-returns-in-RomanNumeral-clause-does
+given-returns-in-RomanNumeral-clause-does g t c =
+    let T = g.T.Teller in
+    let F = g.F.Files in
+    let mine = c.args.self.now in
+    let tok = token_at mine.names c.args.token in
+    let d = puts_does (hears T.wanting T.heard) (hears_part T.wanting T.part) roman_numeral lawful_roman_numeral _ _ _ _ _ _ _ c.in_ok-list-in-RomanNumeral.ensures.does in
+    given_as (hears T.wanting T.heard) (hears_part T.wanting T.part) tok tok _ (expandable_at mine.names c.args.found) _ _ _ _ _ _ _ refl (ap (expandable_at mine.names) c.in-RomanNumeral.is) d
+
+pub given-returns-in_err-list-in-The-clause-does : goal.given-returns-in_err-list-in-The-clause-does
+given-returns-in_err-list-in-The-clause-does g t c =
+    let T = g.T.Teller in
+    let F = g.F.Files in
+    let mine = c.args.self.now in
+    let tok = token_at mine.names c.args.token in
+    let d = puts_stops (hears T.wanting T.heard) (hears_part T.wanting T.part) the lawful_the _ _ _ _ _ _ _ c.in_err-list-in-The.ensures.does in
+    let h = given_as (hears T.wanting T.heard) (hears_part T.wanting T.part) tok tok _ (expandable_at mine.names c.args.found) _ _ _ _ _ _ _ refl (ap (expandable_at mine.names) c.in-The.is) d in
+    search (rules, h)
+
+pub given-returns-in-The-clause-does : goal.given-returns-in-The-clause-does
+given-returns-in-The-clause-does g t c =
+    let T = g.T.Teller in
+    let F = g.F.Files in
+    let mine = c.args.self.now in
+    let tok = token_at mine.names c.args.token in
+    let d = puts_does (hears T.wanting T.heard) (hears_part T.wanting T.part) the lawful_the _ _ _ _ _ _ _ c.in_ok-list-in-The.ensures.does in
+    given_as (hears T.wanting T.heard) (hears_part T.wanting T.part) tok tok _ (expandable_at mine.names c.args.found) _ _ _ _ _ _ _ refl (ap (expandable_at mine.names) c.in-The.is) d
+
+pub given-returns-in_err-list-in-String-clause-does : goal.given-returns-in_err-list-in-String-clause-does
+given-returns-in_err-list-in-String-clause-does g t c =
+    let T = g.T.Teller in
+    let F = g.F.Files in
+    let mine = c.args.self.now in
+    let tok = token_at mine.names c.args.token in
+    let d = puts_stops (hears T.wanting T.heard) (hears_part T.wanting T.part) (λ c'. string) lawful_string _ _ _ _ _ _ _ (does_gets (hears T.wanting T.heard) (hears_part T.wanting T.part) (λ c'. string) lawful_string _ mine c.string.new.self _ _ _ _ (T.faults c.args.tell.now) (T.loan c.args.tell.now) c.args.tell.now c.in_err-list-in-String.ensures.gets) in
+    let h = given_as (hears T.wanting T.heard) (hears_part T.wanting T.part) tok tok _ (expandable_at mine.names c.args.found) _ _ _ _ _ _ _ refl (ap (expandable_at mine.names) c.in-String.is) d in
+    search (rules, h)
+
+pub given-returns-in-String-clause-does : goal.given-returns-in-String-clause-does
+given-returns-in-String-clause-does g t c =
+    let T = g.T.Teller in
+    let F = g.F.Files in
+    let mine = c.args.self.now in
+    let tok = token_at mine.names c.args.token in
+    let d = puts_does (hears T.wanting T.heard) (hears_part T.wanting T.part) (λ c'. string) lawful_string _ _ _ _ _ _ _ (does_gets (hears T.wanting T.heard) (hears_part T.wanting T.part) (λ c'. string) lawful_string _ mine c.string.new.self _ _ _ _ (T.faults c.args.tell.now) (T.loan c.args.tell.now) c.args.tell.now c.in_ok-list-in-String.ensures.gets) in
+    given_as (hears T.wanting T.heard) (hears_part T.wanting T.part) tok tok _ (expandable_at mine.names c.args.found) _ _ _ _ _ _ _ refl (ap (expandable_at mine.names) c.in-String.is) d
+
+pub given-returns-in_err-list-in-JobName-clause-does : goal.given-returns-in_err-list-in-JobName-clause-does
+given-returns-in_err-list-in-JobName-clause-does g t c =
+    let T = g.T.Teller in
+    let F = g.F.Files in
+    let mine = c.args.self.now in
+    let tok = token_at mine.names c.args.token in
+    let d = puts_stops (hears T.wanting T.heard) (hears_part T.wanting T.part) (λ c'. job) lawful_job _ _ _ _ _ _ _ (does_silent (hears T.wanting T.heard) (hears_part T.wanting T.part) (λ c'. job) lawful_job _ mine c.job.new.self (outside (F.shelf c.args.files.now) (F.faults c.args.files.now) (T.faults c.args.tell.now) (T.loan c.args.tell.now)) c.args.tell.now (c.in_err-list-in-JobName.ensures.writes (F.shelf c.args.files.now)) c.in_err-list-in-JobName.ensures.kept c.in_err-list-in-JobName.ensures.limit c.in_err-list-in-JobName.ensures.keeps c.in_err-list-in-JobName.ensures.progress c.in_err-list-in-JobName.ensures.files c.requires.owns) in
+    let h = given_as (hears T.wanting T.heard) (hears_part T.wanting T.part) tok tok _ (expandable_at mine.names c.args.found) _ _ _ _ _ _ _ refl (ap (expandable_at mine.names) c.in-JobName.is) d in
+    search (rules, h)
+
+pub given-returns-in-JobName-clause-does : goal.given-returns-in-JobName-clause-does
+given-returns-in-JobName-clause-does g t c =
+    let T = g.T.Teller in
+    let F = g.F.Files in
+    let mine = c.args.self.now in
+    let tok = token_at mine.names c.args.token in
+    let d = puts_does (hears T.wanting T.heard) (hears_part T.wanting T.part) (λ c'. job) lawful_job _ _ _ _ _ _ _ (does_silent (hears T.wanting T.heard) (hears_part T.wanting T.part) (λ c'. job) lawful_job _ mine c.job.new.self (outside (F.shelf c.args.files.now) (F.faults c.args.files.now) (T.faults c.args.tell.now) (T.loan c.args.tell.now)) c.args.tell.now (c.in_ok-list-in-JobName.ensures.writes (F.shelf c.args.files.now)) c.in_ok-list-in-JobName.ensures.kept c.in_ok-list-in-JobName.ensures.limit c.in_ok-list-in-JobName.ensures.keeps c.in_ok-list-in-JobName.ensures.progress c.in_ok-list-in-JobName.ensures.files c.requires.owns) in
+    given_as (hears T.wanting T.heard) (hears_part T.wanting T.part) tok tok _ (expandable_at mine.names c.args.found) _ _ _ _ _ _ _ refl (ap (expandable_at mine.names) c.in-JobName.is) d
+
+pub given-returns-in-ExpandAfter-clause-does : goal.given-returns-in-ExpandAfter-clause-does
+given-returns-in-ExpandAfter-clause-does g t c =
+    let T = g.T.Teller in
+    let F = g.F.Files in
+    let mine = c.args.self.now in
+    let tok = token_at mine.names c.args.token in
+    given_as (hears T.wanting T.heard) (hears_part T.wanting T.part) tok tok _ (expandable_at mine.names c.args.found) _ _ _ _ _ _ _ refl (ap (expandable_at mine.names) c.in-ExpandAfter.is) c.expand_after.ensures.does
+
+pub given-returns-in-CsName-clause-does : goal.given-returns-in-CsName-clause-does
+given-returns-in-CsName-clause-does g t c =
+    let T = g.T.Teller in
+    let F = g.F.Files in
+    let mine = c.args.self.now in
+    let tok = token_at mine.names c.args.token in
+    given_as (hears T.wanting T.heard) (hears_part T.wanting T.part) tok tok _ (expandable_at mine.names c.args.found) _ _ _ _ _ _ _ refl (ap (expandable_at mine.names) c.in-CsName.is) c.cs_name.ensures.does
+
+pub given-returns-in-Conditional-clause-does : goal.given-returns-in-Conditional-clause-does
+given-returns-in-Conditional-clause-does g t c =
+    let T = g.T.Teller in
+    let F = g.F.Files in
+    let mine = c.args.self.now in
+    let tok = token_at mine.names c.args.token in
+    given_as (hears T.wanting T.heard) (hears_part T.wanting T.part) tok tok _ (expandable_at mine.names c.args.found) _ _ _ _ _ _ _ refl (ap (expandable_at mine.names) c.in-Conditional.is) c.conditional.ensures.does
+
+pub given-returns-in-NoExpand-clause-does : goal.given-returns-in-NoExpand-clause-does
+given-returns-in-NoExpand-clause-does g t c =
+    let T = g.T.Teller in
+    let F = g.F.Files in
+    let mine = c.args.self.now in
+    let tok = token_at mine.names c.args.token in
+    given_as (hears T.wanting T.heard) (hears_part T.wanting T.part) tok tok _ (expandable_at mine.names c.args.found) _ _ _ _ _ _ _ refl (ap (expandable_at mine.names) c.in-NoExpand.is) (does_gets (hears T.wanting T.heard) (hears_part T.wanting T.part) (λ c'. no_expand) lawful_no_expand _ mine c.no_expand.new.self _ _ _ _ (T.faults c.args.tell.now) (T.loan c.args.tell.now) c.args.tell.now c.no_expand.ensures.gets)
+
+pub given-returns-in-PartEnd-clause-does : goal.given-returns-in-PartEnd-clause-does
+given-returns-in-PartEnd-clause-does g t c =
+    let T = g.T.Teller in
+    let F = g.F.Files in
+    let mine = c.args.self.now in
+    let tok = token_at mine.names c.args.token in
+    given_as (hears T.wanting T.heard) (hears_part T.wanting T.part) tok tok _ (expandable_at mine.names c.args.found) _ _ _ _ _ _ _ refl (ap (expandable_at mine.names) c.in-PartEnd.is) (does_gets (hears T.wanting T.heard) (hears_part T.wanting T.part) (λ c'. part_end tok c.in-PartEnd.word) (lawful_part_end tok c.in-PartEnd.word) _ mine c.part_end.new.self _ _ _ _ (T.faults c.args.tell.now) (T.loan c.args.tell.now) c.args.tell.now c.part_end.ensures.gets)
 
 pub index-returns-in-Alone-clause-does : goal.index-returns-in-Alone-clause-does
 index-returns-in-Alone-clause-does g t c =
@@ -185,7 +355,7 @@ index-returns-in_err-number-in-Character-clause-does g t c =
     let F = g.F.Files in
     let d = does_stop (hears T.wanting T.heard) (hears_part T.wanting T.part) (λ c. c.scan int_text []) (λ i c. a_character i) (lawful_scan int_text) lawful_character _ _ _ _ _ _ _ c.in_err-number-in-Character.ensures.does in
     let h = index_as (hears T.wanting T.heard) (hears_part T.wanting T.part) Character c.args.index _ _ _ _ _ _ _ c.in-Character.is d in
-    search (rules, h)
+    rw (passed_on c.from_residual.result c.in_err-number-in-Character.field-0.0 c.from_residual.ensures) h
 
 pub index-returns-in_err-number-in-Register-clause-does : goal.index-returns-in_err-number-in-Register-clause-does
 index-returns-in_err-number-in-Register-clause-does g t c =
@@ -193,7 +363,7 @@ index-returns-in_err-number-in-Register-clause-does g t c =
     let F = g.F.Files in
     let d = does_stop (hears T.wanting T.heard) (hears_part T.wanting T.part) (λ c. c.scan int_text []) (λ i c. a_register i) (lawful_scan int_text) lawful_register _ _ _ _ _ _ _ c.in_err-number-in-Register.ensures.does in
     let h = index_as (hears T.wanting T.heard) (hears_part T.wanting T.part) Register c.args.index _ _ _ _ _ _ _ c.in-Register.is d in
-    search (rules, h)
+    rw (passed_on c.from_residual-in_err-number-in-Register.result c.in_err-number-in-Register.field-0.0 c.from_residual-in_err-number-in-Register.ensures) h
 
 pub index-returns-in_ok-number-in-Character-clause-does : goal.index-returns-in_ok-number-in-Character-clause-does
 index-returns-in_ok-number-in-Character-clause-does g t c =
@@ -251,6 +421,32 @@ int-unreachable-requires g t c =
     let h = scan_gives worths.Int (machine_rest (machines.Int c.new.result)) int_text same _ c.in_ok-value.ensures.gives in
     c.in_default.not-Int h.value h.is
 
+pub dimension-returns-clause-does : goal.dimension-returns-clause-does
+dimension-returns-clause-does g t c =
+    let same : (xs : List Look) → machine_rest (machines.Dimen c.new.result) xs ≡ mapped worths.Dimen (dimension_text xs) = λ xs. ap (λ r. mapped worths.Dimen (verdict r)) (c.new.ensures xs) in
+    let i = c.in-Dimen.value in
+    let h = scan_of _ _ worths.Dimen (machine_rest (machines.Dimen c.new.result)) dimension_text same i c.in_ok-value.field-0 _ _ _ _ _ _ c.in-Dimen.is dimen_same c.in_ok-value.ensures.does in
+    h
+
+pub dimension-returns-clause-gives : goal.dimension-returns-clause-gives
+dimension-returns-clause-gives g t c =
+    let same : (xs : List Look) → machine_rest (machines.Dimen c.new.result) xs ≡ mapped worths.Dimen (dimension_text xs) = λ xs. ap (λ r. mapped worths.Dimen (verdict r)) (c.new.ensures xs) in
+    let i = c.in-Dimen.value in
+    let h = gives_of worths.Dimen (machine_rest (machines.Dimen c.new.result)) dimension_text same i c.in_ok-value.field-0 c.in-Dimen.is dimen_same c.in_ok-value.ensures.gives in
+    h
+
+pub dimension-returns-in_err-value-clause-does : goal.dimension-returns-in_err-value-clause-does
+dimension-returns-in_err-value-clause-does g t c =
+    let same : (xs : List Look) → machine_rest (machines.Dimen c.new.result) xs ≡ mapped worths.Dimen (dimension_text xs) = λ xs. ap (λ r. mapped worths.Dimen (verdict r)) (c.new.ensures xs) in
+    let h = scan_stop _ _ worths.Dimen (machine_rest (machines.Dimen c.new.result)) dimension_text same _ _ _ _ _ _ _ c.in_err-value.ensures.does in
+    search (rules, h)
+
+pub dimension-unreachable-requires : goal.dimension-unreachable-requires
+dimension-unreachable-requires g t c =
+    let same : (xs : List Look) → machine_rest (machines.Dimen c.new.result) xs ≡ mapped worths.Dimen (dimension_text xs) = λ xs. ap (λ r. mapped worths.Dimen (verdict r)) (c.new.ensures xs) in
+    let h = scan_gives worths.Dimen (machine_rest (machines.Dimen c.new.result)) dimension_text same _ c.in_ok-value.ensures.gives in
+    c.in_default.not-Dimen h.value h.is
+
 pub internal-returns-in-Builtin-clause-does : goal.internal-returns-in-Builtin-clause-does
 internal-returns-in-Builtin-clause-does g t c =
     rw c.in-Builtin.is c.internal_at.ensures.does
@@ -270,7 +466,7 @@ internal-returns-in-Quantity-clause-does g t c =
     let mine = c.args.self.now in
     let new = c.value_of.new.self in
     let k = key_at mine.names c.in-Quantity.key in
-    let d = does_as (hears T.wanting T.heard) (hears_part T.wanting T.part) (internal_at new.names) (value k) (lawful_value k) c.value_of.result mine new (outside (F.shelf c.args.files.now) (F.faults c.args.files.now) (T.faults c.args.tell.now) (T.loan c.args.tell.now)) c.args.tell.now (by_new internal_at _ _ mine new e.values e.same) e.kept e.limit e.keeps e.progress e.files c.requires.owns in
+    let d = does_as (hears T.wanting T.heard) (hears_part T.wanting T.part) (internal_at new.names) (value k) (lawful_value k) c.value_of.result mine new (outside (F.shelf c.args.files.now) (F.faults c.args.files.now) (T.faults c.args.tell.now) (T.loan c.args.tell.now)) c.args.tell.now (by_new internal_at (value_of k) c.value_of.result mine new e.values e.same) e.kept e.limit e.keeps e.progress e.files c.requires.owns in
     rw c.in-Quantity.is d
 
 pub internal-returns-in_default : goal.internal-returns-in_default
@@ -301,7 +497,7 @@ internal_at-returns-clause-does g t c =
     let key = does_then (hears T.wanting T.heard) (hears_part T.wanting T.part) (λ c. read_index c (index_of v)) (λ n c. give (key_of v n)) (lawful_index (index_of v)) (λ n. lawful_give (key_of v n)) n _ _ _ _ _ _ _ _ _ _ index (does_now (hears T.wanting T.heard) (hears_part T.wanting T.part) k mid (outside (F.shelf files) (F.faults files) (T.faults tell) (T.loan tell)) tell i.keeps.sound i.stops.kept i.holds.owns) in
     let same = ap (key_at mid.names) c.key_of.ensures ∙ key_same mid.names v n in
     let values = subst (λ k. Local (value_of k) (ok_at (internal_at mid.names) c.value_of.result) mid new) same e.values in
-    let d = does_as (hears T.wanting T.heard) (hears_part T.wanting T.part) (internal_at new.names) (value k) (lawful_value k) c.value_of.result mid new (outside (F.shelf files) (F.faults files) (T.faults tell) (T.loan tell)) tell (by_new internal_at _ _ mid new values e.same) e.kept e.limit e.keeps e.progress e.files i.holds.owns in
+    let d = does_as (hears T.wanting T.heard) (hears_part T.wanting T.part) (internal_at new.names) (value k) (lawful_value k) c.value_of.result mid new (outside (F.shelf files) (F.faults files) (T.faults tell) (T.loan tell)) tell (by_new internal_at (value_of k) c.value_of.result mid new values e.same) e.kept e.limit e.keeps e.progress e.files i.holds.owns in
     rw some (does_then (hears T.wanting T.heard) (hears_part T.wanting T.part) (λ c. read_key c v) value (lawful_key v) lawful_value k _ _ _ _ _ _ _ _ _ _ key d)
 
 pub internal_at-returns-in_default-clause-does : goal.internal_at-returns-in_default-clause-does
@@ -322,7 +518,7 @@ internal_at-returns-in_err-number-clause-does g t c =
     let key = does_stop (hears T.wanting T.heard) (hears_part T.wanting T.part) (λ c. read_index c (index_of v)) (λ n c. give (key_of v n)) (lawful_index (index_of v)) (λ n. lawful_give (key_of v n)) _ _ _ _ _ _ _ index in
     let h = does_stop (hears T.wanting T.heard) (hears_part T.wanting T.part) (λ c. read_key c v) value (lawful_key v) lawful_value _ _ _ _ _ _ _ key in
     let goal = subst (λ o. Does (hears T.wanting T.heard) (hears_part T.wanting T.part) (λ n. internal_of (level n) o) (Err c.in_err-number.field-0.0) c.args.self.now c.index.new.self (outside (F.shelf c.args.files.now) (F.faults c.args.files.now) (T.faults c.args.tell.now) (T.loan c.args.tell.now)) (outside (F.shelf c.index.new.files) (F.faults c.index.new.files) (T.faults c.index.new.tell) (T.loan c.index.new.tell)) c.args.tell.now c.index.new.tell) (sym some) h in
-    search (rules, goal)
+    rw (passed_on c.from_residual.result c.in_err-number.field-0.0 c.from_residual.ensures) goal
 
 pub look_by-returns-clause-does : goal.look_by-returns-clause-does
 look_by-returns-clause-does g t c =
@@ -432,7 +628,7 @@ next_looked-returns-in_err-read-2-clause-does g t c =
     let F = g.F.Files in
     let h = does_stop (hears T.wanting T.heard) (hears_part T.wanting T.part) (λ c. c.fetch) counts lawful_fetch lawful_counts _ _ _ _ _ _ _ c.in_err-read-2.ensures.does in
     let goal = looked_as (hears T.wanting T.heard) (hears_part T.wanting T.part) false c.args.raw _ _ _ _ _ _ _ c.if-raw.false h in
-    search (rules, goal)
+    rw (passed_on c.from_residual-in_err-read-2.result c.in_err-read-2.field-0.0 c.from_residual-in_err-read-2.ensures) goal
 
 pub next_looked-returns-in_err-read-clause-does : goal.next_looked-returns-in_err-read-clause-does
 next_looked-returns-in_err-read-clause-does g t c =
@@ -574,64 +770,52 @@ scan-tokens-preserved g t c =
     let l = c.tokens.invariant in
     record { on = rw c.in-Ok.ensures.items on; begun = sym c.begun.ensures ∙ c.if-begun.false; same = l.same; limit = k.does.progress.limit ∙ d.progress.limit ∙ l.limit }
 
-pub the-returns-clause-does : goal.the-returns-clause-does
-the-returns-clause-does g t c =
-    let T = g.T.Teller in
-    let F = g.F.Files in
-    let mid = c.next_looked.new.self in
-    let tell = c.next_looked.new.tell in
-    let files = c.next_looked.new.files in
-    let x = looked_at mid.names c.in-Some.looked in
-    let d = rw c.in-Some.is at c.in_ok-looked.ensures.does in
-    let m = meaning_at mid.names c.in-Ok.meaning in
-    let e = c.shown.ensures in
-    let now = c.internal.new.self in
-    let new = c.shown.new.self in
-    let last = c.internal.new.tell in
-    let held_files = c.internal.new.files in
-    let q = internal_at now.names c.in_ok-internal.internal in
-    let u = does_as (hears T.wanting T.heard) (hears_part T.wanting T.part) (tokens_at new.names) (λ c. give (shown q)) (lawful_give (shown q)) c.shown.result now new (outside (F.shelf held_files) (F.faults held_files) (T.faults last) (T.loan last)) last (by_new tokens_at _ _ now new e.writes e.same) e.kept e.limit e.keeps e.progress e.files c.in_ok-internal.ensures.does.holds.owns in
-    let k = shown_then (hears T.wanting T.heard) (hears_part T.wanting T.part) x m q _ _ _ _ _ _ _ _ _ _ c.in-Ok.ensures.means c.in_ok-internal.ensures.does u in
-    the_behind (hears T.wanting T.heard) (hears_part T.wanting T.part) x _ _ _ _ _ _ _ _ _ _ d k
-
-pub the-returns-in-Err-clause-does : goal.the-returns-in-Err-clause-does
-the-returns-in-Err-clause-does g t c =
-    let T = g.T.Teller in
-    let F = g.F.Files in
-    let mid = c.next_looked.new.self in
-    let tell = c.next_looked.new.tell in
-    let files = c.next_looked.new.files in
-    let x = looked_at mid.names c.in-Some.looked in
-    let d = rw c.in-Some.is at c.in_ok-looked.ensures.does in
-    let e = c.no_memory.ensures in
-    let k = does_out (hears T.wanting T.heard) (hears_part T.wanting T.part) (shown_now x) (lawful_shown_now x) c.no_memory.result mid c.no_memory.new.self (outside (F.shelf files) (F.faults files) (T.faults tell) (T.loan tell)) tell e.is e.kept d.holds.owns in
-    the_behind (hears T.wanting T.heard) (hears_part T.wanting T.part) x _ _ _ _ _ _ _ _ _ _ d k
-
-pub the-returns-in-None-clause-does : goal.the-returns-in-None-clause-does
-the-returns-in-None-clause-does g t c =
-    let T = g.T.Teller in
-    let F = g.F.Files in
-    let d = rw c.in-None.is at c.in_ok-looked.ensures.does in
-    the_ends (hears T.wanting T.heard) (hears_part T.wanting T.part) c.bare_fault.result _ c.next_looked.new.self c.bare_fault.new.self _ _ _ _ d c.bare_fault.ensures.is c.bare_fault.ensures.kept
-
 pub the-returns-in_err-internal-clause-does : goal.the-returns-in_err-internal-clause-does
 the-returns-in_err-internal-clause-does g t c =
     let T = g.T.Teller in
     let F = g.F.Files in
-    let mid = c.next_looked.new.self in
-    let tell = c.next_looked.new.tell in
-    let files = c.next_looked.new.files in
-    let x = looked_at mid.names c.in-Some.looked in
-    let d = rw c.in-Some.is at c.in_ok-looked.ensures.does in
-    let m = meaning_at mid.names c.in-Ok.meaning in
-    let k = shown_stops (hears T.wanting T.heard) (hears_part T.wanting T.part) x m _ _ _ _ _ _ _ c.in-Ok.ensures.means c.in_err-internal.ensures.does in
-    let h = the_behind (hears T.wanting T.heard) (hears_part T.wanting T.part) x _ _ _ _ _ _ _ _ _ _ d k in
+    let h = the_stops (hears T.wanting T.heard) (hears_part T.wanting T.part) _ _ _ _ _ _ _ c.in_err-internal.ensures.does in
     search (rules, h)
 
-pub the-returns-in_err-looked-clause-does : goal.the-returns-in_err-looked-clause-does
-the-returns-in_err-looked-clause-does g t c =
-    let h = the_stops _ _ _ _ _ _ _ _ _ c.in_err-looked.ensures.does in
+pub the-returns-clause-does : goal.the-returns-clause-does
+the-returns-clause-does g t c =
+    let T = g.T.Teller in
+    let F = g.F.Files in
+    let e = c.shown.ensures in
+    let mid = c.next_internal.new.self in
+    let new = c.shown.new.self in
+    let last = c.next_internal.new.tell in
+    let files = c.next_internal.new.files in
+    let q = internal_at mid.names c.in_ok-internal.internal in
+    let u = does_as (hears T.wanting T.heard) (hears_part T.wanting T.part) (tokens_at new.names) (λ c. give (shown q)) (lawful_give (shown q)) c.shown.result mid new (outside (F.shelf files) (F.faults files) (T.faults last) (T.loan last)) last (by_new tokens_at (give (shown q)) c.shown.result mid new e.writes e.same) e.kept e.limit e.keeps e.progress e.files c.in_ok-internal.ensures.does.holds.owns in
+    the_does (hears T.wanting T.heard) (hears_part T.wanting T.part) q _ _ _ _ _ _ _ _ _ _ c.in_ok-internal.ensures.does u
+
+pub next_internal-returns-in_err-looked-clause-does : goal.next_internal-returns-in_err-looked-clause-does
+next_internal-returns-in_err-looked-clause-does g t c =
+    let T = g.T.Teller in
+    let F = g.F.Files in
+    let h = internal_stops (hears T.wanting T.heard) (hears_part T.wanting T.part) _ _ _ _ _ _ _ c.in_err-looked.ensures.does in
     search (rules, h)
+
+pub next_internal-returns-in-None-clause-does : goal.next_internal-returns-in-None-clause-does
+next_internal-returns-in-None-clause-does g t c =
+    let T = g.T.Teller in
+    let F = g.F.Files in
+    internal_ends (hears T.wanting T.heard) (hears_part T.wanting T.part) c.bare_fault.result _ c.next_looked.new.self c.bare_fault.new.self _ _ _ _ (rw c.in-None.is at c.in_ok-looked.ensures.does) c.bare_fault.ensures.is c.bare_fault.ensures.kept
+
+pub next_internal-returns-in-Err-clause-does : goal.next_internal-returns-in-Err-clause-does
+next_internal-returns-in-Err-clause-does g t c =
+    let T = g.T.Teller in
+    let F = g.F.Files in
+    let mid = c.next_looked.new.self in
+    internal_out (hears T.wanting T.heard) (hears_part T.wanting T.part) (looked_at mid.names c.in-Some.looked) c.no_memory.result _ mid c.no_memory.new.self _ _ _ _ (rw c.in-Some.is at c.in_ok-looked.ensures.does) c.no_memory.ensures.is c.no_memory.ensures.kept
+
+pub next_internal-returns-clause-does : goal.next_internal-returns-clause-does
+next_internal-returns-clause-does g t c =
+    let T = g.T.Teller in
+    let F = g.F.Files in
+    let mid = c.next_looked.new.self in
+    internal_begins (hears T.wanting T.heard) (hears_part T.wanting T.part) (looked_at mid.names c.in-Some.looked) (meaning_at mid.names c.in-Ok.meaning) _ _ _ _ _ _ _ _ _ _ (rw c.in-Some.is at c.in_ok-looked.ensures.does) c.in-Ok.ensures.means c.internal.ensures.does
 
 pub look_by-returns-in_default : goal.look_by-returns-in_default
 look_by-returns-in_default g t c =
@@ -648,3 +832,284 @@ look_by-returns-in_default g t c =
     let is = ap (λ l. r (l ∷ [])) (sym first) ∙ c.turn.ensures.is in
     let d = look_now (hears T.wanting T.heard) (hears_part T.wanting T.part) r t m c.turn.result mine (outside (F.shelf files) (F.faults files) (T.faults tell) (T.loan tell)) tell c.requires.sound c.requires.running c.requires.owns c.in-Ok.ensures.means is c.in_default.not-Asked in
     record { does = subst (λ l. Does (hears T.wanting T.heard) (hears_part T.wanting T.part) (λ n. look (level n) r [] t) (Ok l) mine mine (outside (F.shelf files) (F.faults files) (T.faults tell) (T.loan tell)) (outside (F.shelf files) (F.faults files) (T.faults tell) (T.loan tell)) tell tell) (sym first) d; turned = record { is = c.turn.ensures.is; on = c.turn.ensures.on }; lower = shrinks_none (F.shelf files) mine }
+
+pub expand-given-requires : goal.expand-given-requires
+expand-given-requires g t c κs within =
+    let b = c.in_ok-begin.ensures in
+    let mine = c.args.self.now in
+    let mid = c.begin.new.self in
+    let kept = begun_kept mine mid b.is b.within c.requires.sound in
+    let owns = owns_same (g.F.Files.shelf c.args.files.now) mine mid c.requires.owns b.files in
+    let found = subst (λ (h : Held). ExpandableWithin (length h.names) c.args.found) (sym b.is) c.requires.found in
+    let nesting = ap (λ (h : Held). h.nesting) b.is in
+    let deep = b.nested in
+    (omega (arith, c.decreases, nesting, deep), (within.0, (within.1, (b.kept, (kept.sound, (owns, found))))))
+
+pub the-returns-clause-lower : goal.the-returns-clause-lower
+the-returns-clause-lower g t c =
+    let first = rw c.in-Some.is at c.in_ok-looked.ensures.lower in
+    ok_same c.shown.result 0 _ _ _ c.internal.new.self c.shown.new.self (shrinks_then 1 0 0 _ _ _ _ c.next_looked.new.self _ first c.in_ok-internal.ensures.lower (omega arith)) c.shown.ensures.same
+
+pub next_face-returns-in_err-read-clause-does : goal.next_face-returns-in_err-read-clause-does
+next_face-returns-in_err-read-clause-does g t c =
+    let T = g.T.Teller in
+    let F = g.F.Files in
+    let h = face_stops (hears T.wanting T.heard) (hears_part T.wanting T.part) _ _ _ _ _ _ _ c.in_err-read.ensures.does in
+    search (rules, h)
+
+pub next_face-returns-in-None-clause-does : goal.next_face-returns-in-None-clause-does
+next_face-returns-in-None-clause-does g t c =
+    let T = g.T.Teller in
+    let F = g.F.Files in
+    face_ends (hears T.wanting T.heard) (hears_part T.wanting T.part) c.bare_fault.result _ c.fetch_on.new.self c.bare_fault.new.self _ _ _ _ (rw c.in-None.is at c.in_ok-read.ensures.does) c.bare_fault.ensures.is c.bare_fault.ensures.kept
+
+pub next_face-returns-in-Ok-clause-does : goal.next_face-returns-in-Ok-clause-does
+next_face-returns-in-Ok-clause-does g t c =
+    let T = g.T.Teller in
+    let F = g.F.Files in
+    let mid = c.fetch_on.new.self in
+    face_does (hears T.wanting T.heard) (hears_part T.wanting T.part) (read_at mid.names c.in-Some.read) c.in-Ok.face _ mid _ _ _ _ (rw c.in-Some.is at c.in_ok-read.ensures.does) c.in-Ok.ensures
+
+pub next_face-returns-in-Err-clause-does : goal.next_face-returns-in-Err-clause-does
+next_face-returns-in-Err-clause-does g t c =
+    let T = g.T.Teller in
+    let F = g.F.Files in
+    let mid = c.fetch_on.new.self in
+    face_out (hears T.wanting T.heard) (hears_part T.wanting T.part) (read_at mid.names c.in-Some.read) c.no_memory.result _ mid c.no_memory.new.self _ _ _ _ (rw c.in-Some.is at c.in_ok-read.ensures.does) c.no_memory.ensures.is c.no_memory.ensures.kept
+
+pub two_faces-returns-in_err-first-clause-does : goal.two_faces-returns-in_err-first-clause-does
+two_faces-returns-in_err-first-clause-does g t c =
+    let T = g.T.Teller in
+    let F = g.F.Files in
+    let h = first_face_stops (hears T.wanting T.heard) (hears_part T.wanting T.part) _ _ _ _ _ _ _ c.in_err-first.ensures.does in
+    search (rules, h)
+
+pub two_faces-returns-in_err-second-clause-does : goal.two_faces-returns-in_err-second-clause-does
+two_faces-returns-in_err-second-clause-does g t c =
+    let T = g.T.Teller in
+    let F = g.F.Files in
+    let h = faces_stop (hears T.wanting T.heard) (hears_part T.wanting T.part) _ _ _ _ _ _ _ _ _ _ c.in_ok-first.ensures.does _ c.in_err-second.ensures.does in
+    search (rules, h)
+
+pub two_faces-returns-clause-does : goal.two_faces-returns-clause-does
+two_faces-returns-clause-does g t c =
+    let T = g.T.Teller in
+    let F = g.F.Files in
+    faces_do (hears T.wanting T.heard) (hears_part T.wanting T.part) _ _ _ _ _ _ _ _ _ _ c.in_ok-first.ensures.does _ c.in_ok-second.ensures.does
+
+pub amount-returns-then-not-dimension-clause-does : goal.amount-returns-then-not-dimension-clause-does
+amount-returns-then-not-dimension-clause-does g t c =
+    let T = g.T.Teller in
+    let F = g.F.Files in
+    amount_as (hears T.wanting T.heard) (hears_part T.wanting T.part) false c.args.dimension _ _ _ _ _ _ _ c.if-not-dimension.true c.int.ensures.does
+
+pub amount-returns-in_err-value-clause-does : goal.amount-returns-in_err-value-clause-does
+amount-returns-in_err-value-clause-does g t c =
+    let T = g.T.Teller in
+    let F = g.F.Files in
+    let d = dimension_stops (hears T.wanting T.heard) (hears_part T.wanting T.part) _ _ _ _ _ _ _ c.in_err-value.ensures.does in
+    let h = amount_as (hears T.wanting T.heard) (hears_part T.wanting T.part) true c.args.dimension _ _ _ _ _ _ _ c.if-not-dimension.false d in
+    search (rules, h)
+
+pub amount-returns-clause-does : goal.amount-returns-clause-does
+amount-returns-clause-does g t c =
+    let T = g.T.Teller in
+    let F = g.F.Files in
+    let d = dimension_does (hears T.wanting T.heard) (hears_part T.wanting T.part) c.in_ok-value.value _ _ _ _ _ _ c.in_ok-value.ensures.does in
+    amount_as (hears T.wanting T.heard) (hears_part T.wanting T.part) true c.args.dimension _ _ _ _ _ _ _ c.if-not-dimension.false d
+
+pub relation-returns-in_err-list-clause-does : goal.relation-returns-in_err-list-clause-does
+relation-returns-in_err-list-clause-does g t c =
+    let T = g.T.Teller in
+    let F = g.F.Files in
+    let h = relation_stops (hears T.wanting T.heard) (hears_part T.wanting T.part) _ _ _ _ _ _ _ c.in_err-list.ensures.does in
+    search (rules, h)
+
+pub relation-returns-clause-does : goal.relation-returns-clause-does
+relation-returns-clause-does g t c =
+    let T = g.T.Teller in
+    let F = g.F.Files in
+    let new = c.gather.new.self in
+    let d = relation_does (hears T.wanting T.heard) (hears_part T.wanting T.part) (tokens_at new.names c.in_ok-list.list) _ _ _ _ _ _ c.in_ok-list.ensures.does in
+    rw (c.first_code.ensures new.names) d
+
+pub compared-returns-in_err-a-clause-does : goal.compared-returns-in_err-a-clause-does
+compared-returns-in_err-a-clause-does g t c =
+    let T = g.T.Teller in
+    let F = g.F.Files in
+    let h = compared_first (hears T.wanting T.heard) (hears_part T.wanting T.part) c.args.dimensions _ _ _ _ _ _ _ c.in_err-a.ensures.does in
+    search (rules, h)
+
+pub compared-returns-in_err-relation-clause-does : goal.compared-returns-in_err-relation-clause-does
+compared-returns-in_err-relation-clause-does g t c =
+    let T = g.T.Teller in
+    let F = g.F.Files in
+    let h = compared_second (hears T.wanting T.heard) (hears_part T.wanting T.part) c.args.dimensions _ _ _ _ _ _ _ c.in_ok-a.ensures.does _ _ _ _ c.in_err-relation.ensures.does in
+    search (rules, h)
+
+pub compared-returns-in_err-b-clause-does : goal.compared-returns-in_err-b-clause-does
+compared-returns-in_err-b-clause-does g t c =
+    let T = g.T.Teller in
+    let F = g.F.Files in
+    let h = compared_third (hears T.wanting T.heard) (hears_part T.wanting T.part) c.args.dimensions _ _ _ _ _ _ _ c.in_ok-a.ensures.does _ _ _ _ _ _ _ c.in_ok-relation.ensures.does _ c.in_err-b.ensures.does in
+    search (rules, h)
+
+pub compared-returns-clause-does : goal.compared-returns-clause-does
+compared-returns-clause-does g t c =
+    let T = g.T.Teller in
+    let F = g.F.Files in
+    let a = c.in_ok-a.a in
+    let b = c.in_ok-b.b in
+    let fits : FitsSigned w32 a = search rules in
+    let fits_b : FitsSigned w32 b = search rules in
+    let is = c.compares.ensures ∙ ap (λ z. compares c.in_ok-relation.relation z (to_z w32 (of_z w32 b))) (to_z-of_z w32 a fits) ∙ ap (compares c.in_ok-relation.relation a) (to_z-of_z w32 b fits_b) in
+    compared_does (hears T.wanting T.heard) (hears_part T.wanting T.part) c.args.dimensions a _ _ _ _ _ _ c.in_ok-a.ensures.does c.in_ok-relation.relation _ _ _ _ _ _ c.in_ok-relation.ensures.does b _ is c.in_ok-b.ensures.does
+
+pub tested-returns-in_err-field-0-in-If-clause-does : goal.tested-returns-in_err-field-0-in-If-clause-does
+tested-returns-in_err-field-0-in-If-clause-does g t c =
+    let T = g.T.Teller in
+    let F = g.F.Files in
+    let d = choice_stops (hears T.wanting T.heard) (hears_part T.wanting T.part) two_faces lawful_two_faces (λ p. choose (p.0.code == p.1.code)) _ _ _ _ _ _ _ c.in_err-field-0-in-If.ensures.does in
+    let h = tested_as (hears T.wanting T.heard) (hears_part T.wanting T.part) If c.args.test _ _ _ _ _ _ _ c.in-If.is d in
+    search (rules, h)
+
+pub tested-returns-in-If-clause-does : goal.tested-returns-in-If-clause-does
+tested-returns-in-If-clause-does g t c =
+    let T = g.T.Teller in
+    let F = g.F.Files in
+    let d = choice_does (hears T.wanting T.heard) (hears_part T.wanting T.part) two_faces lawful_two_faces (λ p. choose (p.0.code == p.1.code)) _ _ _ _ _ _ _ _ c.choose.ensures c.in_ok-field-0-in-If.ensures.does in
+    tested_as (hears T.wanting T.heard) (hears_part T.wanting T.part) If c.args.test _ _ _ _ _ _ _ c.in-If.is d
+
+pub tested-returns-in_err-field-0-in-IfCat-clause-does : goal.tested-returns-in_err-field-0-in-IfCat-clause-does
+tested-returns-in_err-field-0-in-IfCat-clause-does g t c =
+    let T = g.T.Teller in
+    let F = g.F.Files in
+    let d = choice_stops (hears T.wanting T.heard) (hears_part T.wanting T.part) two_faces lawful_two_faces (λ p. choose (p.0.category == p.1.category)) _ _ _ _ _ _ _ c.in_err-field-0-in-IfCat.ensures.does in
+    let h = tested_as (hears T.wanting T.heard) (hears_part T.wanting T.part) IfCat c.args.test _ _ _ _ _ _ _ c.in-IfCat.is d in
+    search (rules, h)
+
+pub tested-returns-in-IfCat-clause-does : goal.tested-returns-in-IfCat-clause-does
+tested-returns-in-IfCat-clause-does g t c =
+    let T = g.T.Teller in
+    let F = g.F.Files in
+    let d = choice_does (hears T.wanting T.heard) (hears_part T.wanting T.part) two_faces lawful_two_faces (λ p. choose (p.0.category == p.1.category)) _ _ _ _ _ _ _ _ c.choose.ensures c.in_ok-field-0-in-IfCat.ensures.does in
+    tested_as (hears T.wanting T.heard) (hears_part T.wanting T.part) IfCat c.args.test _ _ _ _ _ _ _ c.in-IfCat.is d
+
+pub tested-returns-in_err-same-in-IfX-clause-does : goal.tested-returns-in_err-same-in-IfX-clause-does
+tested-returns-in_err-same-in-IfX-clause-does g t c =
+    let T = g.T.Teller in
+    let F = g.F.Files in
+    let d = choice_stops (hears T.wanting T.heard) (hears_part T.wanting T.part) (λ c'. same_meanings) lawful_same_meanings choose _ _ _ _ _ _ _ (does_gets (hears T.wanting T.heard) (hears_part T.wanting T.part) (λ c'. same_meanings) lawful_same_meanings _ c.args.self.now c.same_meanings.new.self _ _ _ _ (T.faults c.args.tell.now) (T.loan c.args.tell.now) c.args.tell.now c.in_err-same-in-IfX.ensures.gets) in
+    let h = tested_as (hears T.wanting T.heard) (hears_part T.wanting T.part) IfX c.args.test _ _ _ _ _ _ _ c.in-IfX.is d in
+    search (rules, h)
+
+pub tested-returns-in-IfX-clause-does : goal.tested-returns-in-IfX-clause-does
+tested-returns-in-IfX-clause-does g t c =
+    let T = g.T.Teller in
+    let F = g.F.Files in
+    let d = choice_does (hears T.wanting T.heard) (hears_part T.wanting T.part) (λ c'. same_meanings) lawful_same_meanings choose _ _ _ _ _ _ _ _ c.choose.ensures (does_gets (hears T.wanting T.heard) (hears_part T.wanting T.part) (λ c'. same_meanings) lawful_same_meanings _ c.args.self.now c.same_meanings.new.self _ _ _ _ (T.faults c.args.tell.now) (T.loan c.args.tell.now) c.args.tell.now c.in_ok-same-in-IfX.ensures.gets) in
+    tested_as (hears T.wanting T.heard) (hears_part T.wanting T.part) IfX c.args.test _ _ _ _ _ _ _ c.in-IfX.is d
+
+pub tested-returns-in_err-holds-in-IfNum-clause-does : goal.tested-returns-in_err-holds-in-IfNum-clause-does
+tested-returns-in_err-holds-in-IfNum-clause-does g t c =
+    let T = g.T.Teller in
+    let F = g.F.Files in
+    let d = choice_stops (hears T.wanting T.heard) (hears_part T.wanting T.part) (λ c'. compared c' false) (lawful_compared false) choose _ _ _ _ _ _ _ c.in_err-holds-in-IfNum.ensures.does in
+    let h = tested_as (hears T.wanting T.heard) (hears_part T.wanting T.part) IfNum c.args.test _ _ _ _ _ _ _ c.in-IfNum.is d in
+    search (rules, h)
+
+pub tested-returns-in-IfNum-clause-does : goal.tested-returns-in-IfNum-clause-does
+tested-returns-in-IfNum-clause-does g t c =
+    let T = g.T.Teller in
+    let F = g.F.Files in
+    let d = choice_does (hears T.wanting T.heard) (hears_part T.wanting T.part) (λ c'. compared c' false) (lawful_compared false) choose _ _ _ _ _ _ _ _ c.choose.ensures c.in_ok-holds-in-IfNum.ensures.does in
+    tested_as (hears T.wanting T.heard) (hears_part T.wanting T.part) IfNum c.args.test _ _ _ _ _ _ _ c.in-IfNum.is d
+
+pub tested-returns-in_err-holds-in-IfDim-clause-does : goal.tested-returns-in_err-holds-in-IfDim-clause-does
+tested-returns-in_err-holds-in-IfDim-clause-does g t c =
+    let T = g.T.Teller in
+    let F = g.F.Files in
+    let d = choice_stops (hears T.wanting T.heard) (hears_part T.wanting T.part) (λ c'. compared c' true) (lawful_compared true) choose _ _ _ _ _ _ _ c.in_err-holds-in-IfDim.ensures.does in
+    let h = tested_as (hears T.wanting T.heard) (hears_part T.wanting T.part) IfDim c.args.test _ _ _ _ _ _ _ c.in-IfDim.is d in
+    search (rules, h)
+
+pub tested-returns-in-IfDim-clause-does : goal.tested-returns-in-IfDim-clause-does
+tested-returns-in-IfDim-clause-does g t c =
+    let T = g.T.Teller in
+    let F = g.F.Files in
+    let d = choice_does (hears T.wanting T.heard) (hears_part T.wanting T.part) (λ c'. compared c' true) (lawful_compared true) choose _ _ _ _ _ _ _ _ c.choose.ensures c.in_ok-holds-in-IfDim.ensures.does in
+    tested_as (hears T.wanting T.heard) (hears_part T.wanting T.part) IfDim c.args.test _ _ _ _ _ _ _ c.in-IfDim.is d
+
+pub tested-returns-in_err-number-in-IfOdd-clause-does : goal.tested-returns-in_err-number-in-IfOdd-clause-does
+tested-returns-in_err-number-in-IfOdd-clause-does g t c =
+    let T = g.T.Teller in
+    let F = g.F.Files in
+    let d = choice_stops (hears T.wanting T.heard) (hears_part T.wanting T.part) number lawful_number (λ i. choose (is_odd i)) _ _ _ _ _ _ _ c.in_err-number-in-IfOdd.ensures.does in
+    let h = tested_as (hears T.wanting T.heard) (hears_part T.wanting T.part) IfOdd c.args.test _ _ _ _ _ _ _ c.in-IfOdd.is d in
+    search (rules, h)
+
+pub tested-returns-in-IfOdd-clause-does : goal.tested-returns-in-IfOdd-clause-does
+tested-returns-in-IfOdd-clause-does g t c =
+    let T = g.T.Teller in
+    let F = g.F.Files in
+    let i = c.in_ok-number-in-IfOdd.number in
+    let fits : FitsSigned w32 i = search rules in
+    let d = choice_does (hears T.wanting T.heard) (hears_part T.wanting T.part) number lawful_number (λ i. choose (is_odd i)) i _ _ _ _ _ _ _ (c.choose.ensures ∙ ap choose c.is_odd.ensures ∙ ap (λ z. choose (is_odd z)) (to_z-of_z w32 i fits)) c.in_ok-number-in-IfOdd.ensures.does in
+    tested_as (hears T.wanting T.heard) (hears_part T.wanting T.part) IfOdd c.args.test _ _ _ _ _ _ _ c.in-IfOdd.is d
+
+pub tested-returns-in_err-number-in-IfCase-clause-does : goal.tested-returns-in_err-number-in-IfCase-clause-does
+tested-returns-in_err-number-in-IfCase-clause-does g t c =
+    let T = g.T.Teller in
+    let F = g.F.Files in
+    let d = choice_stops (hears T.wanting T.heard) (hears_part T.wanting T.part) number lawful_number choose_case _ _ _ _ _ _ _ c.in_err-number-in-IfCase.ensures.does in
+    let h = tested_as (hears T.wanting T.heard) (hears_part T.wanting T.part) IfCase c.args.test _ _ _ _ _ _ _ c.in-IfCase.is d in
+    search (rules, h)
+
+pub tested-returns-in-IfCase-clause-does : goal.tested-returns-in-IfCase-clause-does
+tested-returns-in-IfCase-clause-does g t c =
+    let T = g.T.Teller in
+    let F = g.F.Files in
+    let i = c.in_ok-number-in-IfCase.number in
+    let fits : FitsSigned w32 i = search rules in
+    let d = choice_does (hears T.wanting T.heard) (hears_part T.wanting T.part) number lawful_number choose_case i _ _ _ _ _ _ _ (c.choose_case.ensures ∙ ap choose_case (to_z-of_z w32 i fits)) c.in_ok-number-in-IfCase.ensures.does in
+    tested_as (hears T.wanting T.heard) (hears_part T.wanting T.part) IfCase c.args.test _ _ _ _ _ _ _ c.in-IfCase.is d
+
+pub tested-returns-in-IfTrue-clause-does : goal.tested-returns-in-IfTrue-clause-does
+tested-returns-in-IfTrue-clause-does g t c =
+    let T = g.T.Teller in
+    let F = g.F.Files in
+    tested_as (hears T.wanting T.heard) (hears_part T.wanting T.part) IfTrue c.args.test _ _ _ _ _ _ _ c.in-IfTrue.is (rw c.choose.ensures (does_now (hears T.wanting T.heard) (hears_part T.wanting T.part) (choose true) c.args.self.now (outside (F.shelf c.args.files.now) (F.faults c.args.files.now) (T.faults c.args.tell.now) (T.loan c.args.tell.now)) c.args.tell.now c.requires.sound c.requires.running c.requires.owns))
+
+pub tested-returns-in-IfFalse-clause-does : goal.tested-returns-in-IfFalse-clause-does
+tested-returns-in-IfFalse-clause-does g t c =
+    let T = g.T.Teller in
+    let F = g.F.Files in
+    tested_as (hears T.wanting T.heard) (hears_part T.wanting T.part) IfFalse c.args.test _ _ _ _ _ _ _ c.in-IfFalse.is (rw c.choose.ensures (does_now (hears T.wanting T.heard) (hears_part T.wanting T.part) (choose false) c.args.self.now (outside (F.shelf c.args.files.now) (F.faults c.args.files.now) (T.faults c.args.tell.now) (T.loan c.args.tell.now)) c.args.tell.now c.requires.sound c.requires.running c.requires.owns))
+
+pub conditional-returns-in_err-at-clause-does : goal.conditional-returns-in_err-at-clause-does
+conditional-returns-in_err-at-clause-does g t c =
+    let T = g.T.Teller in
+    let F = g.F.Files in
+    let h = unopened (hears T.wanting T.heard) (hears_part T.wanting T.part) c.args.test _ _ _ _ _ _ _ (does_silent (hears T.wanting T.heard) (hears_part T.wanting T.part) (λ c'. open_test) lawful_open_test _ c.args.self.now c.open_test.new.self (outside (F.shelf c.args.files.now) (F.faults c.args.files.now) (T.faults c.args.tell.now) (T.loan c.args.tell.now)) c.args.tell.now (c.in_err-at.ensures.opens (F.shelf c.args.files.now)) c.in_err-at.ensures.kept c.in_err-at.ensures.limit c.in_err-at.ensures.keeps c.in_err-at.ensures.progress c.in_err-at.ensures.files c.requires.owns) in
+    search (rules, h)
+
+pub conditional-returns-in_err-choice-clause-does : goal.conditional-returns-in_err-choice-clause-does
+conditional-returns-in_err-choice-clause-does g t c =
+    let T = g.T.Teller in
+    let F = g.F.Files in
+    let h = untested (hears T.wanting T.heard) (hears_part T.wanting T.part) c.args.test c.in_ok-at.at _ _ _ _ _ _ (does_silent (hears T.wanting T.heard) (hears_part T.wanting T.part) (λ c'. open_test) lawful_open_test _ c.args.self.now c.open_test.new.self (outside (F.shelf c.args.files.now) (F.faults c.args.files.now) (T.faults c.args.tell.now) (T.loan c.args.tell.now)) c.args.tell.now (c.in_ok-at.ensures.opens (F.shelf c.args.files.now)) c.in_ok-at.ensures.kept c.in_ok-at.ensures.limit c.in_ok-at.ensures.keeps c.in_ok-at.ensures.progress c.in_ok-at.ensures.files c.requires.owns) _ _ _ _ c.in_err-choice.ensures.does in
+    search (rules, h)
+
+pub conditional-returns-in_err-chosen-clause-does : goal.conditional-returns-in_err-chosen-clause-does
+conditional-returns-in_err-chosen-clause-does g t c =
+    let T = g.T.Teller in
+    let F = g.F.Files in
+    let h = unchosen (hears T.wanting T.heard) (hears_part T.wanting T.part) c.args.test c.in_ok-at.at _ _ _ _ _ _ (does_silent (hears T.wanting T.heard) (hears_part T.wanting T.part) (λ c'. open_test) lawful_open_test _ c.args.self.now c.open_test.new.self (outside (F.shelf c.args.files.now) (F.faults c.args.files.now) (T.faults c.args.tell.now) (T.loan c.args.tell.now)) c.args.tell.now (c.in_ok-at.ensures.opens (F.shelf c.args.files.now)) c.in_ok-at.ensures.kept c.in_ok-at.ensures.limit c.in_ok-at.ensures.keeps c.in_ok-at.ensures.progress c.in_ok-at.ensures.files c.requires.owns) c.in_ok-choice.choice _ _ _ _ _ _ c.in_ok-choice.ensures.does _ (does_gets (hears T.wanting T.heard) (hears_part T.wanting T.part) (λ c'. chosen c.in_ok-at.at c.in_ok-choice.choice) (lawful_chosen c.in_ok-at.at c.in_ok-choice.choice) _ c.tested.new.self c.chosen.new.self _ _ _ _ (T.faults c.tested.new.tell) (T.loan c.tested.new.tell) c.tested.new.tell c.in_err-chosen.ensures.gets) in
+    search (rules, h)
+
+pub conditional-returns-clause-does : goal.conditional-returns-clause-does
+conditional-returns-clause-does g t c =
+    let T = g.T.Teller in
+    let F = g.F.Files in
+    conditional_does (hears T.wanting T.heard) (hears_part T.wanting T.part) c.args.test c.in_ok-at.at _ _ _ _ _ _ (does_silent (hears T.wanting T.heard) (hears_part T.wanting T.part) (λ c'. open_test) lawful_open_test _ c.args.self.now c.open_test.new.self (outside (F.shelf c.args.files.now) (F.faults c.args.files.now) (T.faults c.args.tell.now) (T.loan c.args.tell.now)) c.args.tell.now (c.in_ok-at.ensures.opens (F.shelf c.args.files.now)) c.in_ok-at.ensures.kept c.in_ok-at.ensures.limit c.in_ok-at.ensures.keeps c.in_ok-at.ensures.progress c.in_ok-at.ensures.files c.requires.owns) c.in_ok-choice.choice _ _ _ _ _ _ c.in_ok-choice.ensures.does (does_gets (hears T.wanting T.heard) (hears_part T.wanting T.part) (λ c'. chosen c.in_ok-at.at c.in_ok-choice.choice) (lawful_chosen c.in_ok-at.at c.in_ok-choice.choice) _ c.tested.new.self c.chosen.new.self _ _ _ _ (T.faults c.tested.new.tell) (T.loan c.tested.new.tell) c.tested.new.tell c.in_ok-chosen.ensures.gets)
+

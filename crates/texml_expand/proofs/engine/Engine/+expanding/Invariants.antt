@@ -9,7 +9,7 @@ use Rattle.texml_expand.proofs.engine.Engine.+expanding.Given as goal
 
 -- what is left of both depths, and the place of a function among those that call each other
 abbrev measure : ℕ → ℕ → ℕ → ℕ
-measure nesting deep rank = 10 * ((400 - nesting) + (1000 - deep)) + rank
+measure nesting deep rank = 32 * ((400 - nesting) + (1000 - deep)) + rank
 
 abbrev pub decreases-expand : goal.decreases-expand
 decreases-expand g l = measure l.self.now.nesting l.deep 0
@@ -38,11 +38,59 @@ decreases-internal_at g l = measure l.self.now.nesting l.deep 6
 abbrev pub decreases-internal : goal.decreases-internal
 decreases-internal g l = measure l.self.now.nesting l.deep 7
 
+abbrev pub decreases-next_internal : goal.decreases-next_internal
+decreases-next_internal g l = measure l.self.now.nesting l.deep 8
+
 abbrev pub decreases-the : goal.decreases-the
-decreases-the g l = measure l.self.now.nesting l.deep 8
+decreases-the g l = measure l.self.now.nesting l.deep 9
+
+abbrev pub decreases-dimension : goal.decreases-dimension
+decreases-dimension g l = measure l.self.now.nesting l.deep 4
+
+abbrev pub decreases-decimal : goal.decreases-decimal
+decreases-decimal g l = measure l.self.now.nesting l.deep 5
+
+abbrev pub decreases-roman : goal.decreases-roman
+decreases-roman g l = measure l.self.now.nesting l.deep 5
+
+abbrev pub decreases-relation : goal.decreases-relation
+decreases-relation g l = measure l.self.now.nesting l.deep 3
+
+abbrev pub decreases-amount : goal.decreases-amount
+decreases-amount g l = measure l.self.now.nesting l.deep 5
+
+abbrev pub decreases-compared : goal.decreases-compared
+decreases-compared g l = measure l.self.now.nesting l.deep 6
+
+abbrev pub decreases-next_face : goal.decreases-next_face
+decreases-next_face g l = measure l.self.now.nesting l.deep 2
+
+abbrev pub decreases-two_faces : goal.decreases-two_faces
+decreases-two_faces g l = measure l.self.now.nesting l.deep 3
+
+abbrev pub decreases-tested : goal.decreases-tested
+decreases-tested g l = measure l.self.now.nesting l.deep 7
+
+abbrev pub decreases-conditional : goal.decreases-conditional
+decreases-conditional g l = measure l.self.now.nesting l.deep 8
+
+abbrev pub decreases-cs_name : goal.decreases-cs_name
+decreases-cs_name g l = measure l.self.now.nesting l.deep 3
+
+abbrev pub decreases-expand_after : goal.decreases-expand_after
+decreases-expand_after g l = measure l.self.now.nesting l.deep 1
+
+abbrev pub decreases-copy : goal.decreases-copy
+decreases-copy g l = measure l.self.now.nesting l.deep 0
+
+abbrev pub decreases-at_once : goal.decreases-at_once
+decreases-at_once g l = measure l.self.now.nesting l.deep 1
+
+abbrev pub decreases-gather : goal.decreases-gather
+decreases-gather g l = measure l.self.now.nesting l.deep 2
 
 abbrev pub decreases-given : goal.decreases-given
-decreases-given g l = measure l.self.now.nesting l.deep 9
+decreases-given g l = measure l.self.now.nesting l.deep 10
 
 abbrev pub invariant-fetch_on-fronts : goal.invariant-fetch_on-fronts
 invariant-fetch_on-fronts g l =

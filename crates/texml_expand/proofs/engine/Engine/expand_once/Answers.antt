@@ -12,4 +12,4 @@ returns-in-Err-clause-follows g c = λ running.
     let F = g.F.Files in
     let t = token_at c.args.self.now.names c.args.token in
     let e = c.no_memory.ensures in
-    (does_out (hears T.wanting T.heard) (hears_part T.wanting T.part) (λ c. expand_token c t) (lawful_expand_token t) c.no_memory.result c.args.self.now c.no_memory.new.self (outside (F.shelf c.args.files.now) (F.faults c.args.files.now) (T.faults c.args.tell.now) (T.loan c.args.tell.now)) c.args.tell.now e.is e.kept).follows
+    (does_out (hears T.wanting T.heard) (hears_part T.wanting T.part) (λ c. expand_token c t) (lawful_expand_token t) c.no_memory.result c.args.self.now c.no_memory.new.self (outside (F.shelf c.args.files.now) (F.faults c.args.files.now) (T.faults c.args.tell.now) (T.loan c.args.tell.now)) c.args.tell.now e.is e.kept c.requires.owns).follows

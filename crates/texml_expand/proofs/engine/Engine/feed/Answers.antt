@@ -1,5 +1,6 @@
 use Rattle.std.proofs.Common.{rules, arith, ap}
 use Rattle.texml_expand.specs.Held.{Held}
+use Rattle.texml_expand.proofs.Stopping.{passed_on}
 use Rattle.texml_expand.proofs.Fed.{feeding_none, fed_by, feeding_stops, stops_runs, feeding_more, feeding_settled, feeding_fed, feeding_runs, feeding_refuses, refuses_runs, out_runs}
 use Rattle.texml_expand.proofs.engine.Engine.feed.Goals as goal
 
@@ -8,8 +9,9 @@ tokens-init g c = feeding_none (g.D.Feeder.judge c.args.feeder.now) c.args.self.
 
 pub returns-in_err-token-clause-feeds : goal.returns-in_err-token-clause-feeds
 returns-in_err-token-clause-feeds g c =
-    let h = feeding_stops (g.D.Feeder.judge c.args.feeder.now) (g.D.Feeder.judge c.tokens.feeder) c.args.self.now c.tokens.self c.inner_token.new.self _ _ _ c.in_err-token.field-0.0 c.tokens.invariant c.in_err-token.ensures.gets _ _ in
-    search (rules, h)
+    let e = c.in_err-token.field-0.0 in
+    rw (passed_on c.from_residual.result e c.from_residual.ensures)
+    (feeding_stops (g.D.Feeder.judge c.args.feeder.now) (g.D.Feeder.judge c.tokens.feeder) c.args.self.now c.tokens.self c.inner_token.new.self _ _ _ e c.tokens.invariant c.in_err-token.ensures.gets _ _)
 
 pub returns-in_err-token-clause-runs : goal.returns-in_err-token-clause-runs
 returns-in_err-token-clause-runs g c =

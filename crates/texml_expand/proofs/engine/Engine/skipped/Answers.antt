@@ -9,7 +9,7 @@ pub tokens-preserved : goal.tokens-preserved
 tokens-preserved g c =
     let i = c.tokens.invariant in
     let x = c.in-Ok-More.ensures in
-    skipping_more c.args.self.now c.tokens.self c.inner_token.new.self _ _ _ _ c.in_ok-token.token i c.in_ok-token.ensures.gets c.in_ok-token.ensures.lower x.meaning x.is _ (x.goes_on i.seen i.fed c.in-Ok-More.field-0-is)
+    skipping_more c.args.self.now c.tokens.self c.inner_token.new.self _ _ _ _ c.in_ok-token.token i c.in_ok-token.ensures.gets c.in_ok-token.ensures.lower x.meaning x.is _ (x.goes_on i.seen i.fed c.in-Ok-More.field-0-is) c.in_ok-token.ensures.begun
 
 pub tokens-smaller : goal.tokens-smaller
 tokens-smaller g c = let s = c.in_ok-token.ensures.lower.room c.in_ok-token.ensures.begun in omega arith

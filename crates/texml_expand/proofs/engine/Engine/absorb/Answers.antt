@@ -1,0 +1,6 @@
+use Rattle.texml_token.specs.Numbers.{tokens_at}
+use Rattle.texml_expand.proofs.Meeting.{stops_untold, stops_of}
+use Rattle.texml_expand.proofs.engine.Engine.absorb.Goals as goal
+
+pub returns-clause-stops : goal.returns-clause-stops
+returns-clause-stops g c = λ running. stops_untold c.absorb_group.result _ _ _ _ _ _ _ (stops_of (tokens_at c.absorb_group.new.self.names) c.absorb_group.result _ _ _ c.absorb_group.ensures.gets.stops)
