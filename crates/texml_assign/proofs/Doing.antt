@@ -1,5 +1,5 @@
 -- Calls that go together.
-use Rattle.std.proofs.Common.{◌≡◌, ◌+◌, ◌≤◌, ◌<◌, ℕ, IsTrue, [], Option, None, Some, Result, Ok, Err, refl, sym, ap, ◌∙◌, subst, arith, inl, inr, eq-or-lt_of_le}
+use Rattle.std.proofs.Common.{◌≡◌, ◌+◌, ℕ, IsTrue, [], Option, None, Some, Result, Ok, Err, refl, sym, ap, ◌∙◌, subst, arith}
 use Rattle.std.specs.Result.{OnOk, IfOk}
 use Rattle.texml_base.specs.Outside.{Shelf}
 use Rattle.texml_token.proofs.Table.{extends_refl, extends_trans}
@@ -8,10 +8,12 @@ use Rattle.texml_expand.specs.declared.stop.Stop.{Stop}
 use Rattle.texml_expand.specs.declared.stop.Stop.TheVariants as stop
 use Rattle.texml_expand.specs.State.{State, nothing, Answer, Done, Ended, Tex, Reading, chain, IsDecided, fault_at}
 use Rattle.texml_expand.specs.Hearing.{Follows, FollowsTold}
-use Rattle.texml_input.specs.Held.{ids_of, fences_of, AreHeld}
-use Rattle.texml_expand.specs.Contract.{Outside, Stops, ReadsBecause, TellsBecause, Silent, Local, Reads, IsFaultAt, stop_after}
-use Rattle.texml_expand.specs.Held.{Held, state_of, place_of, ok_at, Sound, Kept, Progress, IsAtLimit, Owns, Holding, SameFiles, held_room, Shrinks, Puts}
+use Rattle.texml_input.specs.Held.{ids_of, fences_of}
+use Rattle.texml_expand.specs.Contract.{Outside, Stops, Silent, Local, Reads, IsFaultAt, stop_after}
+use Rattle.texml_expand.specs.Held.{Held, state_of, place_of, ok_at, Sound, Kept, Progress, IsAtLimit, Owns, Holding, SameFiles, Shrinks, Puts}
 use Rattle.texml_expand.proofs.Fronts.{kept_then, kept_itself}
+use Rattle.texml_expand.proofs.Meeting.{stops_as, stops_then, stops_same, silent_fails_not}
+use Rattle.texml_expand.proofs.Running.{told_on, holding_then, holding_same, files_stopped, files_same, shrinks_none, shrinks_then, shrinks_less, shrinks_puts, limit_as, keeps_then}
 use Rattle.texml_expand.proofs.Taking.{silent_fault}
 use Rattle.texml_assign.specs.Loop.{Next, On, Over, LoopOver, loops}
 use Rattle.texml_expand.specs.Expand.{ByDepth}
@@ -22,57 +24,19 @@ use Rattle.texml_assign.proofs.Looping.{LawfulLoop, LoopOnward, onward_start, lo
 
 -- Files
 
--- what files tell they go on to tell
-pub told_on : {before now : Shelf} {old new : Held} → Holding before now old new → IsTrue before.tells → IsTrue now.tells
-told_on h t = subst IsTrue (sym h.tells) t
-
-pub holding_then : {a b c : Shelf} {h i j : Held} → Holding a b h i → Holding b c i j → Holding a c h j
-holding_then p q = record { owns = q.owns; tells = q.tells ∙ p.tells; contents = q.contents ∙ p.contents; fences = q.fences ∙ p.fences }
-
-pub holding_files : (s : Shelf) (h i : Held) → Owns s h → SameFiles h i → Holding s s h i
-holding_files s h i o f = record { owns = record { held = subst (AreHeld s.ids) (sym f.ids) o.held; all = o.all ∙ sym f.ids }; tells = refl; contents = refl; fences = f.fences }
-
-pub files_stopped : (h i : Held) (s : Option Stop) → i ≡ record h { stop = s } → SameFiles h i
-files_stopped h i s e = record { ids = ap (λ (n : Held). ids_of n.input.sources) e; fences = ap (λ (n : Held). fences_of n.input.sources) e }
-
-pub files_none : (h : Held) → SameFiles h h
-files_none h = record { ids = refl; fences = refl }
+pub files_ended : (h i : Held) (s : Option Stop) → i ≡ record h { stop = s } → SameFiles h i
+files_ended h i s e = record { ids = ap (λ (n : Held). ids_of n.input.sources) e; fences = ap (λ (n : Held). fences_of n.input.sources) e }
 
 pub files_then : {h i j : Held} → SameFiles h i → SameFiles i j → SameFiles h j
 files_then p q = record { ids = q.ids ∙ p.ids; fences = q.fences ∙ p.fences }
 
 -- Room
 
-pub shrinks_less : {k : ℕ} {a b : Shelf} {h i : Held} → Shrinks k a h b i → Shrinks 0 a h b i
-shrinks_less {k} {a} {b} {h} {i} p = record { limit = p.limit; nesting = p.nesting; begun = p.begun; room = λ e. let r = p.room e in omega arith; within = p.within }
+pub no_more : {k : ℕ} {a b : Shelf} {h i : Held} → Shrinks k a h b i → Shrinks 0 a h b i
+no_more {k} {a} {b} {h} {i} p = shrinks_less k 0 a b h i p (omega arith)
 
-pub shrinks_then : {j k : ℕ} {a b c : Shelf} {h i n : Held} → Shrinks j a h b i → Shrinks k b i c n → Shrinks (j + k) a h c n
-shrinks_then {j} {k} {a} {b} {c} {h} {i} {n} p q =
-    let x = p.begun in let y = q.begun in let l = q.limit in
-    record {
-      limit = q.limit ∙ p.limit;
-      nesting = q.nesting ∙ p.nesting;
-      begun = omega arith;
-      room = λ e. let r = p.room (omega arith) in let s = q.room (omega arith) in omega arith;
-      within = λ w. elim (eq-or-lt_of_le q.begun) [
-        | inl same ↦ (let fits = p.within (omega arith) in omega arith)
-        | inr more ↦ q.within more
-      ];
-    }
-
-pub shrinks_puts : {k : ℕ} {a b : Shelf} {h i n : Held} → Shrinks k a h b i → Puts k i n → Shrinks 0 a h b n
-shrinks_puts {k} {a} {b} {h} {i} {n} p q =
-    let x = p.begun in let y = q.begun in let l = q.limit in let s = q.room b in
-    record {
-      limit = q.limit ∙ p.limit;
-      nesting = q.nesting ∙ p.nesting;
-      begun = omega arith;
-      room = λ e. let r = p.room (omega arith) in omega arith;
-      within = λ w. let fits = p.within (omega arith) in omega arith;
-    }
-
-pub shrinks_none : (s : Shelf) (h : Held) → Shrinks 0 s h s h
-shrinks_none s h = record { limit = refl; nesting = refl; begun = omega arith; room = λ e. omega arith; within = λ w. absurd (omega arith) }
+pub shrinks_on : {a b c : Shelf} {h i n : Held} → Shrinks 0 a h b i → Shrinks 0 b i c n → Shrinks 0 a h c n
+shrinks_on {a} {b} {c} {h} {i} {n} p q = shrinks_then 0 0 0 a b c h i n p q (omega arith)
 
 pub puts_stopped : (h i : Held) (s : Option Stop) → i ≡ record h { stop = s } → Puts 0 h i
 puts_stopped h i s e = subst (Puts 0 h) (sym e) (record { limit = refl; nesting = refl; begun = refl; room = λ shelf. omega arith })
@@ -81,16 +45,28 @@ pub puts_then : {j k : ℕ} {h i n : Held} → Puts j h i → Puts k i n → Put
 puts_then {j} {k} {h} {i} {n} p q = record { limit = q.limit ∙ p.limit; nesting = q.nesting ∙ p.nesting; begun = q.begun ∙ p.begun; room = λ shelf. let x = p.room shelf in let y = q.room shelf in omega arith }
 
 shrinks_ok : {A : Type 0} (r : Result A Stop) (s : Shelf) (h i : Held) → OnOk r (Puts 0 h i) → OnOk r (Shrinks 0 s h s i)
-shrinks_ok (Ok v) s h i p = shrinks_puts (shrinks_none s h) p
+shrinks_ok (Ok v) s h i p = shrinks_puts 0 0 0 s s h h i (shrinks_none s h) p (omega arith)
 shrinks_ok (Err e) s h i p = tt
 
-pub shrinks_behind : {B : Type 0} (r : Result B Stop) {a b c : Shelf} {h i j : Held} → Shrinks 0 a h b i → OnOk r (Shrinks 0 b i c j) → OnOk r (Shrinks 0 a h c j)
-shrinks_behind (Ok v) p q = shrinks_then p q
-shrinks_behind (Err e) p q = tt
+pub takes_behind : {A : Type 0} (r : Result A Stop) (k : A → ℕ) (a b c : Shelf) (h i j : Held) → Shrinks 0 a h b i → IfOk r (λ v. Shrinks (k v) b i c j) → IfOk r (λ v. Shrinks (k v) a h c j)
+takes_behind (Ok v) k a b c h i j p q = shrinks_then 0 (k v) (k v) a b c h i j p q (omega arith)
+takes_behind (Err e) k a b c h i j p q = tt
 
-puts_behind : {B : Type 0} (r : Result B Stop) {k : ℕ} {a b : Shelf} {h i j : Held} → Shrinks k a h b i → OnOk r (Puts k i j) → OnOk r (Shrinks 0 a h b j)
-puts_behind (Ok v) p q = shrinks_puts p q
-puts_behind (Err e) p q = tt
+pub takes_less : {A : Type 0} (r : Result A Stop) (k : A → ℕ) (a b : Shelf) (h i : Held) → IfOk r (λ v. Shrinks (k v + 1) a h b i) → IfOk r (λ v. Shrinks (k v) a h b i)
+takes_less (Ok v) k a b h i q = shrinks_less (k v + 1) (k v) a b h i q (omega arith)
+takes_less (Err e) k a b h i q = tt
+
+pub takes_any : {A : Type 0} (r : Result A Stop) (k : A → ℕ) (a b : Shelf) (h i : Held) → IfOk r (λ v. Shrinks (k v) a h b i) → OnOk r (Shrinks 0 a h b i)
+takes_any (Ok v) k a b h i q = no_more q
+takes_any (Err e) k a b h i q = tt
+
+pub shrinks_behind : {B : Type 0} (r : Result B Stop) {a b : Shelf} {h i : Held} (c : Shelf) (j : Held) → Shrinks 0 a h b i → OnOk r (Shrinks 0 b i c j) → OnOk r (Shrinks 0 a h c j)
+shrinks_behind (Ok v) c j p q = shrinks_on p q
+shrinks_behind (Err e) c j p q = tt
+
+puts_behind : {B : Type 0} (r : Result B Stop) (k : ℕ) (a b : Shelf) (h i j : Held) → Shrinks k a h b i → OnOk r (Puts k i j) → OnOk r (Shrinks 0 a h b j)
+puts_behind (Ok v) k a b h i j p q = shrinks_puts k k 0 a b h i j p q (omega arith)
+puts_behind (Err e) k a b h i j p q = tt
 
 -- an engine goes on
 pub advances_same : (h i : Held) → i ≡ h → Advances h i
@@ -110,60 +86,7 @@ advances_then h i j a b = record {
 pub advances_progress : (h i : Held) → Progress h i → Advances h i
 advances_progress h i p = record { names = p.names; begun = p.begun; limit = p.limit; writes = let e = p.writes in omega arith }
 
--- a stop is the same of any answer
-reads_as : (A B : Type 0) (e : Stop) (x y : ℕ) → ReadsBecause {A = A} (Err e) x y → ReadsBecause {A = B} (Err e) x y
-reads_as A B (stop.Tex f) x y h = h
-reads_as A B (stop.Limit n) x y h = h
-reads_as A B stop.ReadFailed x y h = h
-reads_as A B stop.TellFailed x y h = h
-reads_as A B stop.NoMemory x y h = h
-
-tells_as : (A B : Type 0) (e : Stop) (x y : ℕ) → TellsBecause {A = A} (Err e) x y → TellsBecause {A = B} (Err e) x y
-tells_as A B (stop.Tex f) x y h = h
-tells_as A B (stop.Limit n) x y h = h
-tells_as A B stop.ReadFailed x y h = h
-tells_as A B stop.TellFailed x y h = h
-tells_as A B stop.NoMemory x y h = h
-
-pub stops_as : (A B : Type 0) (e : Stop) (x y : Outside) (k : Option Stop) → Stops {A = A} (Err e) x y k → Stops {A = B} (Err e) x y k
-stops_as A B e x y k h = record { kept = h.kept; reads = reads_as A B e _ _ h.reads; tells = tells_as A B e _ _ h.tells; loan = h.loan }
-
-pub limit_as : (A B : Type 0) (e : Stop) (h : Held) → IsAtLimit {A = A} (Err e) h → IsAtLimit {A = B} (Err e) h
-limit_as A B (stop.Tex f) h l = l
-limit_as A B (stop.Limit n) h l = l
-limit_as A B stop.ReadFailed h l = l
-limit_as A B stop.TellFailed h l = l
-limit_as A B stop.NoMemory h l = l
-
--- behind a call that answers
-pub stops_behind : {A B : Type 0} (v : A) (r : Result B Stop) (x y z : Outside) (k l : Option Stop) → Stops (Ok v) x y k → Stops r y z l → Stops r x z l
-stops_behind {B = B} v r x y z k l g h = record {
-  kept = h.kept;
-  reads = subst (λ n. ReadsBecause r n z.read_faults) g.reads h.reads;
-  tells = subst (λ n. TellsBecause r n z.tell_faults) g.tells h.tells;
-  loan = h.loan ∙ g.loan;
-}
-
 -- nothing outside was asked
-reads_none : {A : Type 0} (r : Result A Stop) (new : State) (a : Answer A) (n : ℕ) → Silent a r new → ReadsBecause r n n
-reads_none (Ok v) new a n h = refl
-reads_none (Err (stop.Tex f)) new a n h = refl
-reads_none (Err (stop.Limit l)) new a n h = refl
-reads_none (Err stop.ReadFailed) new a n h = absurd h
-reads_none (Err stop.TellFailed) new a n h = refl
-reads_none (Err stop.NoMemory) new a n h = refl
-
-tells_none : {A : Type 0} (r : Result A Stop) (new : State) (a : Answer A) (n : ℕ) → Silent a r new → TellsBecause r n n
-tells_none (Ok v) new a n h = refl
-tells_none (Err (stop.Tex f)) new a n h = refl
-tells_none (Err (stop.Limit l)) new a n h = refl
-tells_none (Err stop.ReadFailed) new a n h = refl
-tells_none (Err stop.TellFailed) new a n h = absurd h
-tells_none (Err stop.NoMemory) new a n h = refl
-
-pub stops_none : {A : Type 0} (r : Result A Stop) (s : State) (a : Answer A) (x : Outside) (k : Option Stop) → Silent a r s → k ≡ stop_after r → Stops r x x k
-stops_none r s a x k h kept = record { kept = kept; reads = reads_none r s a x.read_faults h; tells = tells_none r s a x.tell_faults h; loan = refl }
-
 limit_none : {A : Type 0} (r : Result A Stop) (new : State) (a : Answer A) (h : Held) → IsUnlimited a → Silent a r new → IsAtLimit r h
 limit_none (Ok v) new a h u q = tt
 limit_none (Err (stop.Tex f)) new a h u q = tt
@@ -171,10 +94,6 @@ limit_none (Err (stop.Limit n)) new a h u q = absurd (subst IsUnlimited q u)
 limit_none (Err stop.ReadFailed) new a h u q = tt
 limit_none (Err stop.TellFailed) new a h u q = tt
 limit_none (Err stop.NoMemory) new a h u q = tt
-
-keeps_then : {B : Type 0} (r : Result B Stop) (h i j : Held) → Kept h i → OnOk r (Kept i j) → OnOk r (Kept h j)
-keeps_then (Ok v) h i j g k = kept_then h i j g k
-keeps_then (Err e) h i j g k = tt
 
 pub keeps_same : {B : Type 0} (r : Result B Stop) (h i : Held) → Sound h → OnOk r (i ≡ h) → OnOk r (Kept h i)
 keeps_same (Ok v) h i s e = subst (Kept h) (sym e) (kept_itself h s)
@@ -194,13 +113,13 @@ module _ {T : Type 0} (hear part : T → Record → T → Type 0) where
   pub does_then_sure : {A B : Type 0} (r : ByDepth A) (f : A → ByDepth B) → Lawful r → ((v : A) → Sure (f v)) → (v : A) (result : Result B Stop) (old mid new : Held) (x y z : Outside) (a b c : T)
       → Does hear part r (Ok v) old mid x y a b → Does hear part (f v) result mid new y z b c → Does hear part (chained r f) result old new x z a c
   does_then_sure r f l k v result old mid new x y z a b c g h = record {
-    follows = λ told. follows_then hear part r f l k v result (state_of x.shelf old) (state_of y.shelf mid) (state_of z.shelf new) a b c (g.follows told) (h.follows (told_on g.holds told));
-    stops = stops_behind v result x y z mid.stop new.stop g.stops h.stops;
+    follows = λ told. follows_then hear part r f l k v result (state_of x.shelf old) (state_of y.shelf mid) (state_of z.shelf new) a b c (g.follows told) (h.follows (told_on _ _ _ _ g.holds told));
+    stops = stops_then v result x y z mid.stop new.stop g.stops h.stops;
     limit = h.limit;
     keeps = keeps_then result old mid new g.keeps h.keeps;
     advances = advances_then old mid new g.advances h.advances;
-    holds = holding_then g.holds h.holds;
-    shrinks = shrinks_behind result g.shrinks h.shrinks;
+    holds = holding_then _ _ _ _ _ _ g.holds h.holds;
+    shrinks = shrinks_behind result _ _ g.shrinks h.shrinks;
   }
 
   pub does_then : {A B : Type 0} (r : ByDepth A) (f : A → ByDepth B) → Lawful r → ((v : A) → Lawful (f v)) → (v : A) (result : Result B Stop) (old mid new : Held) (x y z : Outside) (a b c : T)
@@ -231,11 +150,11 @@ module _ {T : Type 0} (hear part : T → Record → T → Type 0) where
       let s = h x.shelf in
       record {
         follows = λ told. follows_silent hear part r decided result (state_of x.shelf old) (state_of x.shelf new) a s;
-        stops = stops_none result (state_of x.shelf new) (r (state_of x.shelf old)) x new.stop s kept;
+        stops = stops_same result x new.stop kept (silent_fails_not (r (state_of x.shelf old)) result (state_of x.shelf new) s);
         limit = limit_none result (state_of x.shelf new) (r (state_of x.shelf old)) new (unlimited (state_of x.shelf old)) s;
         keeps = keeps;
         advances = advances;
-        holds = holding_files x.shelf old new owns files;
+        holds = holding_same x.shelf old new owns files;
         shrinks = shrinks_ok result x.shelf old new puts;
       }
 
@@ -247,7 +166,7 @@ module _ {T : Type 0} (hear part : T → Record → T → Type 0) where
   pub does_judge : {A : Type 0} (r : Reading A) → Plain r → (result : Result A Stop) (old new : Held) (x : Outside) (a : T) → Owns x.shelf old
       → Local r result old new → new.stop ≡ stop_after result → OnOk result (Kept old new) → new ≡ record old { stop = new.stop } → Does hear part (λ n. r) result old new x x a a
   does_judge r p result old new x a owns h kept keeps is =
-      does_local r p result old new x a owns h kept keeps (advances_stopped old new new.stop is) (files_stopped old new new.stop is) (judged result old new is)
+      does_local r p result old new x a owns h kept keeps (advances_stopped old new new.stop is) (files_ended old new new.stop is) (judged result old new is)
     where
       judged : {A : Type 0} (r : Result A Stop) (h i : Held) → i ≡ record h { stop = i.stop } → OnOk r (Puts 0 h i)
       judged (Ok v) h i e = puts_stopped h i i.stop e
@@ -261,23 +180,23 @@ module _ {T : Type 0} (hear part : T → Record → T → Type 0) where
       let s = h y.shelf in
       record {
         follows = λ told. follows_then hear part r (λ v n. f v) l (λ v. sure_reading (f v) (decided v)) v result (state_of x.shelf old) (state_of y.shelf mid) (state_of y.shelf new) a b b (g.follows told) (follows_silent hear part (f v) (decided v) result (state_of y.shelf mid) (state_of y.shelf new) b s);
-        stops = stops_behind v result x y y mid.stop new.stop g.stops (stops_none result (state_of y.shelf new) (f v (state_of y.shelf mid)) y new.stop s kept);
+        stops = stops_then v result x y y mid.stop new.stop g.stops (stops_same result y new.stop kept (silent_fails_not (f v (state_of y.shelf mid)) result (state_of y.shelf new) s));
         limit = limit_none result (state_of y.shelf new) (f v (state_of y.shelf mid)) new (unlimited v (state_of y.shelf mid)) s;
         keeps = keeps_then result old mid new g.keeps keeps;
         advances = advances_then old mid new g.advances advances;
-        holds = holding_then g.holds (holding_files y.shelf mid new g.holds.owns files);
-        shrinks = puts_behind result takes puts;
+        holds = holding_then _ _ _ _ _ _ g.holds (holding_same y.shelf mid new g.holds.owns files);
+        shrinks = puts_behind result k x.shelf y.shelf old mid new takes puts;
       }
 
   -- a value that is had without a change
   pub does_now : {A : Type 0} (r : Reading A) → Plain r → (v : A) (h : Held) (x : Outside) (a : T) → Sound h → Owns x.shelf h → h.stop ≡ None → ((shelf : Shelf) → r (state_of shelf h) ≡ Done v (state_of shelf h) nothing) → Does hear part (λ n. r) (Ok v) h h x x a a
-  does_now r p v h x a sound owns running e = does_local r p (Ok v) h h x a owns e running (kept_itself h sound) (advances_same h h refl) (files_none h) (puts_stopped h h h.stop refl)
+  does_now r p v h x a sound owns running e = does_local r p (Ok v) h h x a owns e running (kept_itself h sound) (advances_same h h refl) (files_same h h refl) (puts_stopped h h h.stop refl)
 
   -- a fault
   pub does_fault : {A : Type 0} (r : Reading A) → Plain r → (code : ℕ) (e : Stop) (old new : Held) (x : Outside) (a : T) → Owns x.shelf old → ((shelf : Shelf) → r (state_of shelf old) ≡ Ended (Tex (fault_at code [] (place_of old))) nothing)
       → IsFaultAt code [] (place_of old) e → new ≡ record old { stop = Some e } → Does hear part (λ n. r) (Err e) old new x x a a
   does_fault r p code e old new x a owns is fault e' =
-      does_local r p (Err e) old new x a owns (λ shelf. silent_fault (r (state_of shelf old)) code [] (place_of old) e (state_of shelf new) (is shelf) fault) (ap (λ (h : Held). h.stop) e') tt (advances_stopped old new (Some e) e') (files_stopped old new (Some e) e') tt
+      does_local r p (Err e) old new x a owns (λ shelf. silent_fault (r (state_of shelf old)) code [] (place_of old) e (state_of shelf new) (is shelf) fault) (ap (λ (h : Held). h.stop) e') tt (advances_stopped old new (Some e) e') (files_stopped old new e e') tt
 
   -- a call of the engine's own, by its clauses
   pub does_call : {A B : Type 0} (reading : ByDepth B) (f : A → B) (r : Result A Stop) (old new : Held) (x y : Outside) (a b : T) → FollowsTold hear part x.shelf (λ n. reading n (state_of x.shelf old)) (ok_at f r) (state_of y.shelf new) a b
@@ -301,6 +220,18 @@ module _ {T : Type 0} (hear part : T → Record → T → Type 0) where
     shrinks = tt;
   }
 
+  pub does_asks : {A : Type 0} (reading : Reading A) → Plain reading → (r : Result A Stop) (old new : Held) (x y : Outside) (a b : T) → b ≡ a → Reads x.shelf (reading (state_of x.shelf old)) r (state_of y.shelf new)
+      → Stops r x y new.stop → IsAtLimit r new → OnOk r (Kept old new) → Progress old new → Holding x.shelf y.shelf old new → OnOk r (Shrinks 0 x.shelf old y.shelf new) → Does hear part (λ n. reading) r old new x y a b
+  does_asks reading p r old new x y a b same reads stops limit keeps progress holds shrinks = record {
+    follows = λ told. subst (Follows hear part (λ n. reading (state_of x.shelf old)) r (state_of y.shelf new) a) (sym same) (follows_quiet hear part reading p.decided r (state_of x.shelf old) (state_of y.shelf new) a (reads told));
+    stops = stops;
+    limit = limit;
+    keeps = keeps;
+    advances = advances_progress old new progress;
+    holds = holds;
+    shrinks = shrinks;
+  }
+
   -- one that tells nobody
   pub does_reads : {A B : Type 0} (reading : Reading B) → Plain reading → (f : A → B) (r : Result A Stop) (old new : Held) (x y : Outside) (a b : T) → b ≡ a → Reads x.shelf (reading (state_of x.shelf old)) (ok_at f r) (state_of y.shelf new)
       → Stops r x y new.stop → IsAtLimit r new → OnOk r (Kept old new) → Progress old new → Holding x.shelf y.shelf old new → OnOk r (Shrinks 0 x.shelf old y.shelf new) → Does hear part (λ n. reading) (ok_at f r) old new x y a b
@@ -318,7 +249,7 @@ module _ {T : Type 0} (hear part : T → Record → T → Type 0) where
         limit = tt;
         keeps = tt;
         advances = advances_stopped old new (Some stop.NoMemory) e';
-        holds = holding_files x.shelf old new owns (files_stopped old new (Some stop.NoMemory) e');
+        holds = holding_same x.shelf old new owns (files_stopped old new stop.NoMemory e');
         shrinks = tt;
       })
 
@@ -355,7 +286,7 @@ module _ {T : Type 0} (hear part : T → Record → T → Type 0) where
       onward = λ told. onward_start loop laws hear part seen (state_of x.shelf h) a;
       calm = record { kept = running; reads = refl; tells = refl; loan = refl };
       advances = advances_same h h refl;
-      holds = holding_files x.shelf h h owns (files_none h);
+      holds = holding_same x.shelf h h owns (files_same h h refl);
       shrinks = shrinks_none x.shelf h;
     }
 
@@ -364,19 +295,19 @@ module _ {T : Type 0} (hear part : T → Record → T → Type 0) where
         → Stops result y z new.stop → IsAtLimit result new → OnOk result (Kept now new) → Advances now new → Holding y.shelf z.shelf now new → OnOk result (Shrinks 0 y.shelf now z.shelf new) → Does hear part (loops loop first) result old new x z a c
     ends result first old now new x y z a b c seen g follows stops limit keeps advances holds shrinks = record {
       follows = follows;
-      stops = stops_behind tt result x y z now.stop new.stop g.calm stops;
+      stops = stops_then tt result x y z now.stop new.stop g.calm stops;
       limit = limit;
       keeps = keeps_then result old now new g.kept keeps;
       advances = advances_then old now new g.advances advances;
-      holds = holding_then g.holds holds;
-      shrinks = shrinks_behind result g.shrinks shrinks;
+      holds = holding_then _ _ _ _ _ _ g.holds holds;
+      shrinks = shrinks_behind result _ _ g.shrinks shrinks;
     }
 
     -- no token can be had
     pub goes_stops : (e : Stop) (first seen : S) (old now new : Held) (x y z : Outside) (a b c : T) → Goes first old x a seen now y b → Does hear part loop.source (Err e) now new y z b c → Does hear part (loops loop first) (Err e) old new x z a c
     goes_stops e first seen old now new x y z a b c g d =
         ends (Err e) first old now new x y z a b c seen g
-        (λ told. loop_stops loop laws hear part e first seen (state_of x.shelf old) (state_of y.shelf now) (state_of z.shelf new) a b c (g.onward told) (d.follows (told_on g.holds told)))
+        (λ told. loop_stops loop laws hear part e first seen (state_of x.shelf old) (state_of y.shelf now) (state_of z.shelf new) a b c (g.onward told) (d.follows (told_on _ _ _ _ g.holds told)))
         (stops_as (Option X) A e y z new.stop d.stops) (limit_as (Option X) A e new d.limit) tt d.advances d.holds tt
 
     -- the end of what is to be read
@@ -384,52 +315,52 @@ module _ {T : Type 0} (hear part : T → Record → T → Type 0) where
         → Does hear part (λ n. loop.end seen) result mid new z w c d → Does hear part (loops loop first) result old new x w a d
     goes_ends result first seen old now mid new x y z w a b c d g s e =
         ends result first old now new x y w a b d seen g
-        (λ told. loop_ends loop laws hear part result first seen (state_of x.shelf old) (state_of y.shelf now) (state_of z.shelf mid) (state_of w.shelf new) a b c d (g.onward told) (s.follows (told_on g.holds told)) (e.follows (told_on s.holds (told_on g.holds told))))
-        (stops_behind None result y z w mid.stop new.stop s.stops e.stops) e.limit (keeps_then result now mid new s.keeps e.keeps) (advances_then now mid new s.advances e.advances) (holding_then s.holds e.holds) (shrinks_behind result s.shrinks e.shrinks)
+        (λ told. loop_ends loop laws hear part result first seen (state_of x.shelf old) (state_of y.shelf now) (state_of z.shelf mid) (state_of w.shelf new) a b c d (g.onward told) (s.follows (told_on _ _ _ _ g.holds told)) (e.follows (told_on _ _ _ _ s.holds (told_on _ _ _ _ g.holds told))))
+        (stops_then None result y z w mid.stop new.stop s.stops e.stops) e.limit (keeps_then result now mid new s.keeps e.keeps) (advances_then now mid new s.advances e.advances) (holding_then _ _ _ _ _ _ s.holds e.holds) (shrinks_behind result _ _ s.shrinks e.shrinks)
 
     -- a turn that stops
     pub goes_turn_stops : (t : X) (e : Stop) (first seen : S) (old now mid new : Held) (x y z w : Outside) (a b c d : T) → Goes first old x a seen now y b → Does hear part loop.source (Ok (Some t)) now mid y z b c
         → Does hear part (loop.turn seen t) (Err e) mid new z w c d → Does hear part (loops loop first) (Err e) old new x w a d
     goes_turn_stops t e first seen old now mid new x y z w a b c d g s h =
         ends (Err e) first old now new x y w a b d seen g
-        (λ told. turn_stops loop laws hear part t e first seen (state_of x.shelf old) (state_of y.shelf now) (state_of z.shelf mid) (state_of w.shelf new) a b c d (g.onward told) (s.follows (told_on g.holds told)) (h.follows (told_on s.holds (told_on g.holds told))))
-        (stops_behind (Some t) (Err e) y z w mid.stop new.stop s.stops (stops_as (Next S A) A e z w new.stop h.stops)) (limit_as (Next S A) A e new h.limit) tt (advances_then now mid new s.advances h.advances) (holding_then s.holds h.holds) tt
+        (λ told. turn_stops loop laws hear part t e first seen (state_of x.shelf old) (state_of y.shelf now) (state_of z.shelf mid) (state_of w.shelf new) a b c d (g.onward told) (s.follows (told_on _ _ _ _ g.holds told)) (h.follows (told_on _ _ _ _ s.holds (told_on _ _ _ _ g.holds told))))
+        (stops_then (Some t) (Err e) y z w mid.stop new.stop s.stops (stops_as (Next S A) A e z w new.stop h.stops)) (limit_as (Next S A) A e new h.limit) tt (advances_then now mid new s.advances h.advances) (holding_then _ _ _ _ _ _ s.holds h.holds) tt
 
     -- a turn behind which it is over
     pub goes_over : (t : X) (v : A) (first seen : S) (old now mid new : Held) (x y z w : Outside) (a b c d : T) → Goes first old x a seen now y b → Does hear part loop.source (Ok (Some t)) now mid y z b c
         → Does hear part (loop.turn seen t) (Ok (Over v)) mid new z w c d → Does hear part (loops loop first) (Ok v) old new x w a d
     goes_over t v first seen old now mid new x y z w a b c d g s h =
-        let s' = stops_behind (Some t) (Ok (Over v)) y z w mid.stop new.stop s.stops h.stops in
+        let s' = stops_then (Some t) (Ok (Over v)) y z w mid.stop new.stop s.stops h.stops in
         ends (Ok v) first old now new x y w a b d seen g
-        (λ told. turn_over loop laws hear part t v first seen (state_of x.shelf old) (state_of y.shelf now) (state_of z.shelf mid) (state_of w.shelf new) a b c d (g.onward told) (s.follows (told_on g.holds told)) (h.follows (told_on s.holds (told_on g.holds told))))
-        (record { kept = s'.kept; reads = s'.reads; tells = s'.tells; loan = s'.loan }) tt (kept_then now mid new s.keeps h.keeps) (advances_then now mid new s.advances h.advances) (holding_then s.holds h.holds) (shrinks_then s.shrinks h.shrinks)
+        (λ told. turn_over loop laws hear part t v first seen (state_of x.shelf old) (state_of y.shelf now) (state_of z.shelf mid) (state_of w.shelf new) a b c d (g.onward told) (s.follows (told_on _ _ _ _ g.holds told)) (h.follows (told_on _ _ _ _ s.holds (told_on _ _ _ _ g.holds told))))
+        (record { kept = s'.kept; reads = s'.reads; tells = s'.tells; loan = s'.loan }) tt (kept_then now mid new s.keeps h.keeps) (advances_then now mid new s.advances h.advances) (holding_then _ _ _ _ _ _ s.holds h.holds) (shrinks_on s.shrinks h.shrinks)
 
     -- want of memory behind a turn
     pub goes_out : (t : X) (next : Next S A) (e : Stop) (first seen : S) (old now mid far new : Held) (x y z w : Outside) (a b c d : T) → Goes first old x a seen now y b → Does hear part loop.source (Ok (Some t)) now mid y z b c
         → Does hear part (loop.turn seen t) (Ok next) mid far z w c d → e ≡ stop.NoMemory → new ≡ record far { stop = Some stop.NoMemory } → Does hear part (loops loop first) (Err e) old new x w a d
     goes_out t next e first seen old now mid far new x y z w a b c d g s h is e' =
-        let s' = stops_behind (Some t) (Ok next) y z w mid.stop far.stop s.stops h.stops in
+        let s' = stops_then (Some t) (Ok next) y z w mid.stop far.stop s.stops h.stops in
         subst (λ (k : Stop). Does hear part (loops loop first) (Err k) old new x w a d) (sym is)
         (ends (Err stop.NoMemory) first old now new x y w a b d seen g
-        (λ told. turn_out loop laws hear part t next first seen (state_of x.shelf old) (state_of y.shelf now) (state_of z.shelf mid) (state_of w.shelf far) (state_of w.shelf new) a b c d (g.onward told) (s.follows (told_on g.holds told)) (h.follows (told_on s.holds (told_on g.holds told))))
+        (λ told. turn_out loop laws hear part t next first seen (state_of x.shelf old) (state_of y.shelf now) (state_of z.shelf mid) (state_of w.shelf far) (state_of w.shelf new) a b c d (g.onward told) (s.follows (told_on _ _ _ _ g.holds told)) (h.follows (told_on _ _ _ _ s.holds (told_on _ _ _ _ g.holds told))))
         (record { kept = ap (λ (h : Held). h.stop) e'; reads = s'.reads; tells = s'.tells; loan = s'.loan }) tt tt
         (advances_then now far new (advances_then now mid far s.advances h.advances) (advances_stopped far new (Some stop.NoMemory) e'))
-        (holding_then (holding_then s.holds h.holds) (holding_files w.shelf far new h.holds.owns (files_stopped far new (Some stop.NoMemory) e'))) tt)
+        (holding_then _ _ _ _ _ _ (holding_then _ _ _ _ _ _ s.holds h.holds) (holding_same w.shelf far new h.holds.owns (files_stopped far new stop.NoMemory e'))) tt)
 
     -- a turn behind which it goes on
     pub goes_on : (t : X) (first seen more : S) (old now mid new : Held) (x y z w : Outside) (a b c d : T) → Goes first old x a seen now y b → Does hear part loop.source (Ok (Some t)) now mid y z b c
         → Does hear part (loop.turn seen t) (Ok (On more)) mid new z w c d → Goes first old x a more new w d
     goes_on t first seen more old now mid new x y z w a b c d g s h =
-        let s' = stops_behind (Some t) (Ok (On more)) y z w mid.stop new.stop s.stops h.stops in
-        let t' = stops_behind tt (Ok (On more)) x y w now.stop new.stop g.calm s' in
+        let s' = stops_then (Some t) (Ok (On more)) y z w mid.stop new.stop s.stops h.stops in
+        let t' = stops_then tt (Ok (On more)) x y w now.stop new.stop g.calm s' in
         record {
           running = s'.kept;
           kept = kept_then old now new g.kept (kept_then now mid new s.keeps h.keeps);
-          onward = λ told. turn_onward loop laws hear part t first seen more (state_of x.shelf old) (state_of y.shelf now) (state_of z.shelf mid) (state_of w.shelf new) a b c d (g.onward told) (s.follows (told_on g.holds told)) (h.follows (told_on s.holds (told_on g.holds told)));
+          onward = λ told. turn_onward loop laws hear part t first seen more (state_of x.shelf old) (state_of y.shelf now) (state_of z.shelf mid) (state_of w.shelf new) a b c d (g.onward told) (s.follows (told_on _ _ _ _ g.holds told)) (h.follows (told_on _ _ _ _ s.holds (told_on _ _ _ _ g.holds told)));
           calm = record { kept = t'.kept; reads = t'.reads; tells = t'.tells; loan = t'.loan };
           advances = advances_then old now new g.advances (advances_then now mid new s.advances h.advances);
-          holds = holding_then g.holds (holding_then s.holds h.holds);
-          shrinks = shrinks_then g.shrinks (shrinks_then s.shrinks h.shrinks);
+          holds = holding_then _ _ _ _ _ _ g.holds (holding_then _ _ _ _ _ _ s.holds h.holds);
+          shrinks = shrinks_on g.shrinks (shrinks_on s.shrinks h.shrinks);
         }
 
 -- readings that go together and ask nothing outside

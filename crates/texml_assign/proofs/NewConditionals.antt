@@ -1,15 +1,17 @@
 -- New conditionals have one answer, and leave no more to be read.
-use Rattle.std.proofs.Common.{◌≡◌, ◌≤◌, ℕ, zero, suc, List, [], ◌∷◌, ◌++◌, map, length, codes, false, Option, Some, None, refl, sym, ap, ap₂, subst, ◌∙◌, arith}
+use Rattle.std.proofs.Common.{◌≡◌, ◌≤◌, ℕ, zero, suc, List, [], ◌∷◌, ◌++◌, map, codes, false, Option, Some, None, refl, sym, ap, ap₂, subst, ◌∙◌, arith}
 use Rattle.std.specs.List.{All}
 use Rattle.std.proofs.lemmas.List.Elements.{All-head, All-tail, All-map}
-use Rattle.texml_token.specs.Numbers.{Table, Extends, name_at, text_at, token_at, TokenWithin, BodyWithin, BodyTokenWithin}
+use Rattle.texml_token.specs.Numbers.{Table, Extends, name_at, text_at, token_at, BodyWithin, BodyTokenWithin}
 use Rattle.texml_token.specs.declared.tokens.Name.{Name as NameCode}
 use Rattle.texml_token.specs.declared.tokens.Token.{Token as TokenCode}
 use Rattle.texml_token.specs.declared.tokens.Token.TheVariants as tokens
-use Rattle.texml_scope.specs.Numbers.{name_text, IsGiven}
+use Rattle.texml_scope.specs.Numbers.{name_text, meaning_at, IsGiven, MacroWithin}
+use Rattle.texml_scope.specs.Values.{plain_macro, Macro as MacroBy}
+use Rattle.texml_scope.specs.declared.values.MeaningOf.TheVariants.{Macro}
 use Rattle.texml_token.specs.Token.{Token, Named}
-use Rattle.texml_scope.specs.Texts.{Name}
-use Rattle.texml_expand.specs.State.{State, change}
+use Rattle.texml_scope.specs.declared.values.KeyOf.TheVariants.{Name}
+use Rattle.texml_expand.specs.State.{change}
 use Rattle.texml_expand.specs.Take.{means}
 use Rattle.texml_assign.specs.declared.new_if.ConditionalNames.{ConditionalNames}
 use Rattle.texml_assign.specs.ConditionalNames.{IsName, AreNames}
@@ -18,6 +20,7 @@ use Rattle.texml_assign.specs.Operands.{next_token}
 use Rattle.texml_assign.specs.NewIf.{part_in, needed_part, let_name, define_name, set_to, conditional, new_if_of, new_if}
 use Rattle.texml_assign.proofs.Readings.{Plain, plain_give, plain_fail, plain_by, plain_then}
 use Rattle.texml_assign.proofs.Parts.{plain_next, plain_assign}
+use Rattle.texml_assign.proofs.NewCommands.{command_within}
 
 pub plain_needed_part : (o : Option (List ℕ)) → Plain (needed_part o)
 plain_needed_part None = plain_fail _ _ _
@@ -54,6 +57,16 @@ tokens_named texts count (n ∷ names) h =
 
 pub body_named : (count : ℕ) (names : List NameCode) → All (IsGiven count) names → BodyWithin count 0 (map tokens.Named names)
 body_named count names h = All-map (BodyTokenWithin count 0) tokens.Named names (λ k d lt. (h k d lt).1)
+
+-- a macro of these names
+pub plain_within : (count : ℕ) (names : List NameCode) → All (IsGiven count) names → (made : MacroBy TokenCode) (body : List TokenCode) → body ≡ map tokens.Named names → made ≡ plain_macro body → MacroWithin count made
+plain_within count names h made body b m =
+    subst (MacroWithin count) (sym (m ∙ ap plain_macro b)) (command_within count false 0 None (map tokens.Named names) (omega arith) tt tt (body_named count names h))
+
+pub plain_named : (texts : Table) (count : ℕ) (names : List NameCode) → All (IsGiven count) names → (made : MacroBy TokenCode) (body : List TokenCode) → body ≡ map tokens.Named names → made ≡ plain_macro body
+    → meaning_at texts (Macro made) ≡ Macro (plain_macro (map Named (map (name_text texts) names)))
+plain_named texts count names h made body b m =
+    ap (λ (k : MacroBy TokenCode). meaning_at texts (Macro k)) (m ∙ ap plain_macro b) ∙ ap (λ l. Macro (plain_macro l)) (tokens_named texts count names h)
 
 -- names stay as the table grows
 pub name_stays : (old new : Table) (text : List ℕ) (n : NameCode) → Extends old new → IsName old text n → IsName new text n

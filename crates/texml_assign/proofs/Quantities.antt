@@ -1,11 +1,11 @@
 -- Readings of quantities, and the commands that assign them: each has one answer, and leaves no more to be read.
-use Rattle.std.proofs.Common.{◌≡◌, ◌+◌, ◌≤◌, ◌<◌, ◌^◌, ℕ, ℤ, pos, negsuc, zero, suc, Bool, true, false, nat_le, if◌then◌else◌, List, [], Option, Some, None, Result, Ok, Err, refl, sym, ap, subst, ◌∙◌, arith, codes}
+use Rattle.std.proofs.Common.{◌≡◌, ◌<◌, ◌^◌, ℕ, ℤ, pos, negsuc, zero, suc, Bool, true, false, nat_le, if◌then◌else◌, List, [], Option, Some, None, Result, Ok, Err, refl, sym, ap, subst, ◌∙◌, arith, codes}
 use Rattle.std.specs.Option.{option_map}
 use Rattle.std.specs.Char.{IsScalar}
 use Rattle.texml_token.specs.Token.{Token}
 use Rattle.texml_token.specs.declared.category.TheConstants.{INVALID}
-use Rattle.texml_token.specs.declared.fault_code.TheConstants.{BAD_CODE, MISPLACED, OVERFLOW, MISSING_BRACE, FILE_ENDED}
-use Rattle.texml_scope.specs.Texts.{Key, Meaning, Value}
+use Rattle.texml_token.specs.declared.fault_code.TheConstants.{BAD_CODE, MISPLACED}
+use Rattle.texml_scope.specs.Texts.{Key, Value}
 use Rattle.texml_scope.specs.declared.values.KeyOf.TheVariants as keys
 use Rattle.texml_scope.specs.declared.values.MeaningOf.TheVariants as meanings
 use Rattle.texml_scope.specs.declared.values.ValueOf.TheVariants as values
@@ -21,7 +21,7 @@ use Rattle.texml_expand.specs.declared.variables.Variable.TheVariants as variabl
 use Rattle.texml_expand.specs.VariableCodes.{key_by as key_by_code}
 use Rattle.texml_expand.specs.declared.variables.Index.{Index}
 use Rattle.texml_expand.specs.declared.variables.Index.TheVariants as index
-use Rattle.texml_expand.specs.State.{State, room, nothing, Done, Ended, Reading, chain, give, fail, change, IsDecided}
+use Rattle.texml_expand.specs.State.{State, nothing, Done, Reading, chain, give, fail, change, IsDecided}
 use Rattle.texml_expand.specs.Contract.{Lower}
 use Rattle.texml_input.specs.Rest.{Tok}
 use Rattle.texml_expand.specs.Absorb.{absorb}
@@ -31,7 +31,7 @@ use Rattle.texml_expand.specs.Quantities.{Looked, int_text, dimension_text, glue
 use Rattle.texml_expand.specs.Quantities.{read_index as index_by, read_key as key_by}
 use Rattle.texml_expand.specs.Expand.{ByDepth, back, means, level, counted as as_counted, fetch, read_int, read_dimen, read_glue, read_keyword, read_index, read_key, fetched}
 use Rattle.texml_expand.proofs.Items.{size-cons}
-use Rattle.texml_expand.proofs.Leading.{Leads, leads_after, leads_chain, leads_weaker, lower_none, lower_then, lower_less, count}
+use Rattle.texml_expand.proofs.Leading.{Leads, leads_after, leads_chain, leads_weaker, lower_then, lower_less, count}
 use Rattle.texml_expand.proofs.Readings.{mono_chain, mono_same, settles_chain, settles_now}
 use Rattle.texml_expand.proofs.Levels.{level_falls}
 use Rattle.texml_expand.proofs.Lawful.{lawful_scan}
@@ -51,17 +51,17 @@ use Rattle.texml_assign.specs.declared.table.Arithmetic.{Arithmetic}
 use Rattle.texml_assign.specs.declared.table.Arithmetic.TheVariants.{Advance, Multiply, Divide}
 use Rattle.texml_assign.specs.declared.arithmetic.Counted.{Counted}
 use Rattle.texml_assign.specs.declared.arithmetic.Counted.TheVariants.{Number, Dimension, Glue}
-use Rattle.texml_assign.specs.Loop.{Next, On, Over, looped, turned, loops}
-use Rattle.texml_assign.specs.Targets.{variable_in, target_of, target_key, variable_of, is_counted, is_list}
+use Rattle.texml_assign.specs.Loop.{On, Over, looped, turned, loops}
+use Rattle.texml_assign.specs.Targets.{variable_in, target_of, target_key, variable_of, is_counted}
 use Rattle.texml_assign.specs.Fillers.{fills, filler_turn, filler_loop, first_behind, past_equals, optional_equals, put_looked, ignore_spaces}
 use Rattle.texml_assign.specs.Operands.{is_equals, next_key}
 use Rattle.texml_assign.specs.Sets.{set, assign}
 use Rattle.texml_assign.specs.Assignments.{next_number, category_of, next_category, next_code, next_dimension, next_glue, begins_list, needed_start, list_start, value_now, absorbed_list, copied_list, list_from, list_by, next_list, value_for, assign_next, assign_to, assignment}
 use Rattle.texml_assign.specs.ShortNames.{short_index, short_meaning, short_number, short_equals, short_key, short_name}
-use Rattle.texml_assign.specs.Arithmetic.{counted, counted_by, counted_of, next_counted, count_of, count_now, product, quotient, fits, number_sum, dimension_sum, sum_of_glue, by_number, by_dimension, by_glue, advanced, computed, value_from, count_on, count_with, count_by, count_target, arithmetic}
-use Rattle.texml_assign.proofs.Readings.{IsUnlimited, Lawful, Sure, Plain, chained, lawful_calls, lawful_plain, lawful_then, lawful_by, plain_by, plain_give, plain_fail, plain_change, plain_if, plain_then, sure}
+use Rattle.texml_assign.specs.Arithmetic.{counted, counted_of, next_counted, count_of, count_now, product, quotient, fits, number_sum, dimension_sum, sum_of_glue, by_number, by_dimension, by_glue, advanced, computed, value_from, count_on, count_with, count_by, count_target, arithmetic}
+use Rattle.texml_assign.proofs.Readings.{IsUnlimited, Lawful, Sure, Plain, chained, lawful_calls, lawful_plain, lawful_then, plain_by, plain_give, plain_fail, plain_if, plain_then, sure}
 use Rattle.texml_assign.proofs.Looping.{LawfulLoop, lawful_loop}
-use Rattle.texml_assign.proofs.Parts.{kept_lower, lawful_absorb, plain_set, plain_assign, plain_next_key, same_room}
+use Rattle.texml_assign.proofs.Parts.{kept_lower, lawful_absorb, plain_set, plain_assign, plain_next_key}
 
 -- What the engine reads
 

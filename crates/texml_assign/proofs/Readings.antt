@@ -1,10 +1,10 @@
 -- Readings by the depth of the calls in them: what some depth decides each deeper one does, some depth decides, and no more is left to be read.
-use Rattle.std.proofs.Common.{◌≡◌, ◌+◌, ℕ, Bool, true, false, if◌then◌else◌, List, [], Result, Ok, Err, refl, sym, ap, ◌∙◌, subst, arith}
+use Rattle.std.proofs.Common.{ℕ, Bool, true, false, if◌then◌else◌, List, [], Result, Ok, Err, refl, ◌∙◌, subst, arith}
 use Rattle.texml_watch.specs.declared.record.Record.{Record}
 use Rattle.texml_expand.specs.declared.stop.Stop.{Stop}
 use Rattle.texml_expand.specs.declared.stop.Stop.TheVariants as stop
 use Rattle.texml_expand.specs.State.{State, Gains, Tex, Limit, Answer, Done, Ended, Unfinished, Reading, after, chain, added, IsDecided, give, fail, change}
-use Rattle.texml_expand.specs.Contract.{Lower, DecidesOn, Silent, Quiet}
+use Rattle.texml_expand.specs.Contract.{Lower, Silent, Quiet}
 use Rattle.texml_expand.specs.Hearing.{Meets, Follows}
 use Rattle.texml_expand.proofs.Leading.{Leads, leads_chain, leads_at, leads_weaker, lower_none, lower_then}
 use Rattle.texml_expand.proofs.Deciding.{any, chain_decided}

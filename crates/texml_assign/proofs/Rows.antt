@@ -5,7 +5,7 @@ use Rattle.texml_token.specs.declared.pieces.PieceOf.TheVariants.{Just, Slot}
 use Rattle.texml_token.specs.declared.fault_code.TheConstants.{BAD_PARAMETER, MISSING_BRACE}
 use Rattle.texml_expand.specs.declared.feeding.Verdict.TheVariants.{TooShort, Yields, Refuses}
 use Rattle.texml_token.specs.Token.{Named, Active}
-use Rattle.texml_scope.specs.Texts.{new_world}
+use Rattle.texml_scope.specs.World.{new_world}
 use Rattle.texml_assign.specs.Parameters.{head, text_of, body_of}
 use Rattle.texml_assign.specs.NewIf.{part_in}
 use Rattle.texml_assign.specs.Letters.{code_or, token_in}

@@ -1,5 +1,5 @@
 -- Assignments to variables (The TeXbook, chapters 7, 15, 20 and 24): an equals sign, which may be missing, and a value.
-use Rattle.std.specs.Prelude.{ℕ, ℤ, pos, ◌==◌, nat_le, Bool, false, if◌then◌else◌, [], Option, None, Some}
+use Rattle.std.specs.Prelude.{ℤ, pos, ◌==◌, nat_le, Bool, false, if◌then◌else◌, [], Option, None, Some}
 use Rattle.texml_token.specs.declared.category.TheConstants.{BEGIN_GROUP, INVALID}
 use Rattle.texml_token.specs.declared.fault_code.TheConstants.{FILE_ENDED, MISSING_BRACE}
 use Rattle.texml_scope.specs.Texts.{Key, Meaning, Value}

@@ -1,10 +1,11 @@
 -- Small letters and capitals (The TeXbook, chapter 7): a list of tokens comes again with the codes that its characters have in one of these cases.
-use Rattle.std.specs.Prelude.{ℕ, suc, ℤ, pos, false, List, [], map, Option, None, Some}
+use Rattle.std.specs.Prelude.{ℕ, suc, ℤ, pos, false, List, [], map, Option, Some}
 use Rattle.texml_token.specs.Token.{Token, Char, Active}
 use Rattle.texml_token.specs.declared.fault_code.TheConstants.{MISSING_BRACE}
-use Rattle.texml_scope.specs.Texts.{Key, World, number_in}
+use Rattle.texml_scope.specs.Texts.{Key, World}
+use Rattle.texml_scope.specs.Values.{number_in}
 use Rattle.texml_scope.specs.declared.values.KeyOf.TheVariants.{Lower, Upper}
-use Rattle.texml_expand.specs.State.{State, Reading, ◌>>=◌, fail, change}
+use Rattle.texml_expand.specs.State.{State, ◌>>=◌, fail, change}
 use Rattle.texml_expand.specs.Quantities.{Looked}
 use Rattle.texml_expand.specs.Expand.{ByDepth, put}
 use Rattle.texml_expand.specs.Absorb.{absorb}

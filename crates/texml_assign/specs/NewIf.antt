@@ -2,7 +2,9 @@
 use Rattle.std.specs.Prelude.{ℕ, List, [], ◌∷◌, ◌++◌, map, codes, false, Option, None, Some, if◌then◌else◌}
 use Rattle.texml_token.specs.Token.{Token, Named, text_eq}
 use Rattle.texml_token.specs.declared.fault_code.TheConstants.{BAD_PARAMETER}
-use Rattle.texml_scope.specs.Texts.{Name, Macro, plain_macro}
+use Rattle.texml_scope.specs.declared.values.KeyOf.TheVariants.{Name}
+use Rattle.texml_scope.specs.declared.values.MeaningOf.TheVariants.{Macro}
+use Rattle.texml_scope.specs.Values.{plain_macro}
 use Rattle.texml_expand.specs.State.{State, Reading, ◌>>=◌, ◌>>◌, give, fail, change}
 use Rattle.texml_expand.specs.Take.{means}
 use Rattle.texml_assign.specs.Operands.{next_token}
@@ -31,7 +33,7 @@ define_name name body = assign false (Name name) (Macro (plain_macro (map Named 
 
 -- a macro that lets a conditional be \iftrue or \iffalse
 abbrev pub set_to : List ℕ → List ℕ → State → State
-set_to truth part = define_name (part ++ truth) (codes "let" ∷ codes "if" ++ part ∷ codes "if" ++ truth ∷ [])
+set_to truth part = define_name (part ++ truth) (codes "let" ∷ (codes "if" ++ part) ∷ (codes "if" ++ truth) ∷ [])
 
 -- it is false at first
 abbrev pub conditional : List ℕ → Reading (Unit {0})

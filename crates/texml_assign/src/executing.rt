@@ -217,7 +217,15 @@ fn row<F: Files, T: Teller>(
     match command {
         Command::Relax => Ok(()),
         Command::Def => {
-            define(alloc, engine, files, tell, prefixes.global, false, prefixes.long)?;
+            define(
+                alloc,
+                engine,
+                files,
+                tell,
+                prefixes.global,
+                false,
+                prefixes.long,
+            )?;
             Ok(())
         }
         Command::Gdef => {
@@ -225,7 +233,15 @@ fn row<F: Files, T: Teller>(
             Ok(())
         }
         Command::Edef => {
-            define(alloc, engine, files, tell, prefixes.global, true, prefixes.long)?;
+            define(
+                alloc,
+                engine,
+                files,
+                tell,
+                prefixes.global,
+                true,
+                prefixes.long,
+            )?;
             Ok(())
         }
         Command::Xdef => {

@@ -241,12 +241,7 @@ fn let_name(engine: &mut Engine, name: Name, other: Name) -> Result<(), Stop>
 }
 
 // Makes a name a macro of these names.
-fn define_name(
-    alloc: Global,
-    engine: &mut Engine,
-    name: Name,
-    body: &[Name],
-) -> Result<(), Stop>
+fn define_name(alloc: Global, engine: &mut Engine, name: Name, body: &[Name]) -> Result<(), Stop>
     requires running { engine.old.stop ≡ None }
     requires sound { Sound engine.old }
     requires name { IsGiven (length engine.old.names) name }
@@ -262,7 +257,12 @@ fn define_name(
         Ok(body) => body,
         Err(_) => return Err(engine.no_memory()),
     };
-    assign(engine, false, Key::Name(name), Meaning::Macro(plain_macro(alloc, body)))
+    assign(
+        engine,
+        false,
+        Key::Name(name),
+        Meaning::Macro(plain_macro(alloc, body)),
+    )
 }
 
 // The tokens of these names.

@@ -1,6 +1,5 @@
-use Rattle.std.proofs.Common.{sym, ap, ◌∙◌, subst, rules}
+use Rattle.std.proofs.Common.{ap, ◌∙◌, subst}
 use Rattle.texml_expand.specs.Contract.{Local}
-use Rattle.texml_expand.specs.Held.{state_of}
 use Rattle.texml_assign.specs.Targets.{target_of}
 use Rattle.texml_assign.specs.Arithmetic.{counted}
 use Rattle.texml_assign.proofs.arithmetic.counted_by.Goals as goal

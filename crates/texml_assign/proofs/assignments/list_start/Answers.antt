@@ -1,7 +1,6 @@
-use Rattle.std.proofs.Common.{[], Some, None, sym, ap, ◌∙◌, subst, rules}
+use Rattle.std.proofs.Common.{[], sym, ap, ◌∙◌}
 use Rattle.std.specs.Option.{option_map}
 use Rattle.texml_token.specs.declared.fault_code.TheConstants.{MISSING_BRACE}
-use Rattle.texml_expand.specs.Contract.{Silent}
 use Rattle.texml_expand.specs.Fronts.{looked_at}
 use Rattle.texml_expand.specs.Held.{state_of, place_of}
 use Rattle.texml_expand.proofs.Taking.{silent_fault}

@@ -1,8 +1,7 @@
-use Rattle.std.proofs.Common.{refl, subst, rules}
+use Rattle.std.proofs.Common.{subst, rules}
 use Rattle.texml_scope.specs.Texts.{Key, Meaning}
 use Rattle.texml_scope.specs.Numbers.{key_at, meaning_at}
 use Rattle.texml_expand.specs.State.{change}
-use Rattle.texml_expand.specs.Held.{state_of}
 use Rattle.texml_expand.specs.Contract.{Local}
 use Rattle.texml_assign.specs.Loop.{ByDepth}
 use Rattle.texml_assign.specs.Operands.{next_key}

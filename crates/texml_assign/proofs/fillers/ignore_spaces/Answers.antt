@@ -1,4 +1,4 @@
-use Rattle.std.proofs.Common.{Option, refl, rules}
+use Rattle.std.proofs.Common.{Option, rules}
 use Rattle.std.specs.Option.{option_map}
 use Rattle.texml_expand.specs.Fronts.{looked_at}
 use Rattle.texml_expand.specs.Quantities.{Looked}

@@ -1,9 +1,9 @@
-use Rattle.std.proofs.Common.{refl, rules}
+use Rattle.std.proofs.Common.{rules}
 use Rattle.texml_token.specs.Numbers.{tokens_at}
 use Rattle.texml_expand.specs.State.{change}
 use Rattle.texml_assign.specs.Letters.{next_group, put_in_case}
 use Rattle.texml_assign.proofs.Doing.{does_stop_sure, does_put}
-use Rattle.texml_assign.proofs.Letters.{lawful_next_group, sure_case}
+use Rattle.texml_assign.proofs.LetterCases.{lawful_next_group, sure_case}
 use Rattle.texml_assign.proofs.letters.change_case.Goals as goal
 
 pub returns-in_err-list-clause-does : goal.returns-in_err-list-clause-does

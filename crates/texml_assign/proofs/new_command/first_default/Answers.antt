@@ -1,4 +1,4 @@
-use Rattle.std.proofs.Common.{Ok, Err, refl, ap, rules}
+use Rattle.std.proofs.Common.{Ok, Err, rules}
 use Rattle.std.specs.Option.{option_map}
 use Rattle.texml_token.specs.Numbers.{tokens_at}
 use Rattle.texml_expand.specs.Arguments.{read_optional}
@@ -7,7 +7,7 @@ use Rattle.texml_expand.specs.Hearing.{hears, hears_part}
 use Rattle.texml_assign.specs.NewCommand.{fitting}
 use Rattle.texml_assign.proofs.NewCommands.{plain_optional, plain_fitting}
 use Rattle.texml_assign.proofs.Readings.{lawful_plain}
-use Rattle.texml_assign.proofs.Doing.{does_then, does_stop, kept_of, keeps_of, does_judge, does_reads, shrinks_less}
+use Rattle.texml_assign.proofs.Doing.{does_then, does_stop, kept_of, keeps_of, does_judge, does_reads, no_more}
 use Rattle.texml_assign.proofs.new_command.first_default.Goals as goal
 
 pub returns-in_err-default-clause-does : goal.returns-in_err-default-clause-does
@@ -22,5 +22,5 @@ returns-clause-does g c =
     let slots = c.args.slots in let old = c.args.engine.now in let mid = c.read_optional.new.self in let new = c.fitting.new.engine in let a = c.in_ok-default.ensures in let run = c.requires.running in
     let v = option_map (tokens_at mid.names) c.in_ok-default.default in let n = c.fitting.ensures in let r = c.fitting.result in
     does_then _ _ (λ n. read_optional) (λ v n. fitting slots v) (lawful_plain read_optional plain_optional) (λ v. lawful_plain (fitting slots v) (plain_fitting slots v)) v _ old mid new _ _ _ _ _ _
-    (does_reads _ _ read_optional plain_optional (option_map (tokens_at mid.names)) (Ok c.in_ok-default.default) old mid _ _ _ _ a.tell (a.reads run) (a.stops run) tt (a.keeps run) a.progress a.holds (shrinks_less (a.lower run)))
+    (does_reads _ _ read_optional plain_optional (option_map (tokens_at mid.names)) (Ok c.in_ok-default.default) old mid _ _ _ _ a.tell (a.reads run) (a.stops run) tt (a.keeps run) a.progress a.holds (no_more (a.lower run)))
     (does_judge _ _ (fitting slots v) (plain_fitting slots v) (ok_at (option_map (tokens_at new.names)) r) mid new _ _ a.holds.owns n.needs (kept_of (option_map (tokens_at new.names)) r new.stop n.kept) (keeps_of (option_map (tokens_at new.names)) r (Kept mid new) n.keeps) n.is)

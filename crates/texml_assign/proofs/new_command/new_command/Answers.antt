@@ -3,7 +3,6 @@ use Rattle.std.specs.Option.{option_map}
 use Rattle.texml_scope.specs.Texts.{Key}
 use Rattle.texml_scope.specs.Numbers.{key_at, meaning_at}
 use Rattle.texml_expand.specs.State.{change}
-use Rattle.texml_expand.specs.Held.{state_of}
 use Rattle.texml_expand.specs.Contract.{Local}
 use Rattle.texml_assign.specs.Sets.{assign}
 use Rattle.texml_assign.specs.NewCommand.{starred, command_key, command_macro}

@@ -1,14 +1,11 @@
-use Rattle.std.proofs.Common.{Some, true, false, refl, sym, ◌∙◌, rules, arith}
+use Rattle.std.proofs.Common.{true, false, refl, sym, ◌∙◌, rules, arith}
 use Rattle.texml_token.specs.Numbers.{token_at}
 use Rattle.texml_token.specs.declared.fault_code.TheConstants.{FILE_ENDED}
 use Rattle.texml_expand.specs.Held.{state_of}
-use Rattle.texml_expand.proofs.Leading.{count}
-use Rattle.texml_expand.proofs.Least.{Takes}
 use Rattle.texml_assign.specs.Loop.{On, Over}
 use Rattle.texml_assign.specs.Operands.{token_or_end, space_turn, spaces_loop}
-use Rattle.texml_assign.proofs.Readings.{follows_leads}
 use Rattle.texml_assign.proofs.Doing.{does_now, does_out, does_fault, goes_stops, goes_ends, goes_turn_stops, goes_over, goes_on}
-use Rattle.texml_assign.proofs.Commands.{token_takes, plain_space_turn, space_is, spaces_laws}
+use Rattle.texml_assign.proofs.Commands.{plain_space_turn, space_is, spaces_laws}
 use Rattle.texml_assign.proofs.operands.behind_spaces.Goals as goal
 
 pub returns-in_err-token-clause-does : goal.returns-in_err-token-clause-does

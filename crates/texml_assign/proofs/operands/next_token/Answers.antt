@@ -22,3 +22,6 @@ returns-in-None-clause-does g c =
     let mid = c.token_or_end.new.engine in let f = rw c.in-None.is at c.in_ok-next.ensures.does in
     does_then _ _ (λ n. token_or_end) (λ o n. needed o) (lawful_plain token_or_end plain_token_or_end) (λ o. lawful_plain (needed o) (plain_needed o)) None _ _ mid c.bare_fault.new.self _ _ _ _ _ _
     f (does_fault _ _ (needed None) (plain_needed None) 4 c.bare_fault.result mid c.bare_fault.new.self _ _ f.holds.owns (λ shelf. refl) c.bare_fault.ensures.is c.bare_fault.ensures.kept)
+
+pub returns-in-Some-clause-takes : goal.returns-in-Some-clause-takes
+returns-in-Some-clause-takes g c = rw c.in-Some.is at c.in_ok-next.ensures.takes

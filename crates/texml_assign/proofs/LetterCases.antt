@@ -1,15 +1,15 @@
 -- Lists whose characters get other codes: what is read of them has one answer, and no more is put back than was taken.
-use Rattle.std.proofs.Common.{◌≡◌, ◌+◌, ℕ, ℤ, pos, negsuc, zero, suc, false, List, [], ◌∷◌, ◌++◌, map, length, length-map, Option, Some, None, refl, sym, ap, ◌∙◌, subst, arith}
-use Rattle.std.specs.Char.{IsScalar}
+use Rattle.std.proofs.Common.{◌≡◌, ◌+◌, ℕ, false, List, [], ◌∷◌, ◌++◌, map, length, Option, refl, sym, ap, ◌∙◌, arith}
+use Rattle.std.proofs.Common.{◌<◌, ◌≤◌, take, get_or, ap₂}
+use Rattle.std.proofs.lemmas.List.{map-append, length-map, take_more, take_all}
 use Rattle.texml_token.specs.Token.{Token}
-use Rattle.texml_token.specs.Numbers.{Table}
-use Rattle.texml_scope.specs.Texts.{World}
+use Rattle.texml_token.specs.Numbers.{Table, token_at, tokens_at}
+use Rattle.texml_token.specs.declared.tokens.Token.{Token as TokenCode}
 use Rattle.texml_scope.specs.Shown.{ValueCode}
 use Rattle.texml_scope.specs.Values.{number_in}
 use Rattle.texml_scope.specs.Numbers.{value_at}
 use Rattle.texml_scope.specs.declared.values.ValueOf.TheVariants as values
-use Rattle.texml_expand.specs.State.{State, room, Reading, change, IsDecided, fail}
-use Rattle.texml_expand.specs.Expand.{ByDepth, put}
+use Rattle.texml_expand.specs.State.{State, change, fail}
 use Rattle.texml_expand.specs.Contract.{Lower}
 use Rattle.texml_expand.specs.Absorb.{absorb}
 use Rattle.texml_expand.specs.Quantities.{Looked}
@@ -66,7 +66,7 @@ group_leaves n s =
 put_lower : (case : Case) (list : List Token) (s t : State) → Lower (length list) s t → Lower 0 s (put_in_case case list t)
 put_lower case list s t low =
     let many = size_put (map (token_in case t.world) list) t.rest in
-    let same = length-map (token_in case t.world) list in
+    let same = length-map list (token_in case t.world) in
     record {
       limit = low.limit;
       nesting = low.nesting;
@@ -89,3 +89,17 @@ number_same texts (values.Glue g) = refl
 number_same texts (values.List list) = refl
 number_same texts (values.Parent p) = refl
 number_same texts values.Absent = refl
+
+-- the code's loop over a list
+pub changed_more : (texts : Table) (f : Token → Token) (list changed new : List TokenCode) (i : ℕ) (d t : TokenCode) → i < length list → tokens_at texts changed ≡ map f (tokens_at texts (take i list)) → new ≡ changed ++ t ∷ []
+    → token_at texts t ≡ f (token_at texts (get_or list i d)) → tokens_at texts new ≡ map f (tokens_at texts (take (i + 1) list))
+changed_more texts f list changed new i d t lt h n e =
+    ap (tokens_at texts) n ∙ map-append (token_at texts) changed (t ∷ []) ∙ ap₂ (λ a b. a ++ b ∷ []) h e
+    ∙ sym (ap (λ l. map f (tokens_at texts l)) (take_more list i d lt) ∙ ap (map f) (map-append (token_at texts) (take i list) (get_or list i d ∷ [])) ∙ map-append f (tokens_at texts (take i list)) (token_at texts (get_or list i d) ∷ []))
+
+pub changed_all : (texts : Table) (f : Token → Token) (list changed : List TokenCode) (i : ℕ) → length list ≤ i → tokens_at texts changed ≡ map f (tokens_at texts (take i list)) → tokens_at texts changed ≡ map f (tokens_at texts list)
+changed_all texts f list changed i le h = h ∙ ap (λ l. map f (tokens_at texts l)) (take_all i list le)
+
+pub changed_many : (texts : Table) (f : Token → Token) (list changed : List TokenCode) → tokens_at texts changed ≡ map f (tokens_at texts list) → length changed ≡ length list
+changed_many texts f list changed e =
+    sym (length-map changed (token_at texts)) ∙ ap length e ∙ length-map (tokens_at texts list) f ∙ length-map list (token_at texts)
