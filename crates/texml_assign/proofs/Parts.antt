@@ -29,8 +29,7 @@ use Rattle.texml_assign.specs.Operands.{needed, next_token, token_of, token_or_e
 use Rattle.texml_assign.specs.Parameters.{Head, text_of, body_of}
 use Rattle.texml_assign.specs.Define.{parameter_text, needed_body, body_said, next_body, macro_of, defined, assigned}
 use Rattle.texml_assign.specs.Sets.{set, assign, begin_kind, ended, end_kind, read_after, keep_token}
-use Rattle.texml_expand.specs.declared.gathering.Gathering.TheVariants.{Group}
-use Rattle.texml_expand.proofs.Lawful.{lawful_gather}
+use Rattle.texml_expand.proofs.Lawful.{absorb_lawful}
 use Rattle.texml_assign.proofs.Rooms.{below_room, keep_room}
 use Rattle.texml_assign.proofs.Readings.{IsUnlimited, unlimited_chain, Lawful, Plain, lawful_calls, lawful_plain, lawful_then, plain_by, plain_give, plain_fail, plain_change, plain_if, plain_then}
 use Rattle.texml_assign.proofs.Looping.{LawfulLoop, lawful_loop}
@@ -236,7 +235,7 @@ plain_by_least decide = record {
 
 pub lawful_absorb : (expanding : Bool) → Lawful (absorb expanding)
 lawful_absorb false = lawful_plain (by_least absorbed) (plain_by_least absorbed)
-lawful_absorb true = lawful_calls (λ c. c.gather Group []) (lawful_gather Group)
+lawful_absorb true = lawful_calls _ absorb_lawful
 
 abbrev pub text_taken : Unit {0} → Reading (Head Token)
 text_taken x = by_least text_of
