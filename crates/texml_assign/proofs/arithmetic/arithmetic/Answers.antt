@@ -4,13 +4,13 @@ use Rattle.texml_assign.specs.Arithmetic.{next_counted, count_target}
 use Rattle.texml_assign.proofs.Quantities.{lawful_next_counted, lawful_count_target}
 use Rattle.texml_assign.proofs.arithmetic.arithmetic.Goals as goal
 
-pub returns-in_err-target-clause-does : goal.returns-in_err-target-clause-does
-returns-in_err-target-clause-does g c =
+pub returns-in_err-target : goal.returns-in_err-target
+returns-in_err-target g c =
     let old = c.args.engine.now in
     let h = does_stop _ _ next_counted (count_target c.args.global c.args.what) lawful_next_counted (lawful_count_target c.args.global c.args.what) _ _ _ _ _ _ _ c.requires.sound c.in_err-target.ensures.does in search (rules, h)
 
-pub returns-clause-does : goal.returns-clause-does
-returns-clause-does g c =
+pub returns : goal.returns
+returns g c =
     let old = c.args.engine.now in let mid = c.next_counted.new.engine in let new = c.count_target.new.engine in
     does_then _ _ next_counted (count_target c.args.global c.args.what) lawful_next_counted (lawful_count_target c.args.global c.args.what) c.in_ok-target.target c.count_target.result _ mid new _ _ _ _ _ _ c.in_ok-target.ensures.does
     c.count_target.ensures.does

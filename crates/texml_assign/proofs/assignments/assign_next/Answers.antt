@@ -8,13 +8,13 @@ use Rattle.texml_assign.specs.Assignments.{value_for}
 use Rattle.texml_assign.proofs.Quantities.{lawful_value, lawful_set, same_key, key_given}
 use Rattle.texml_assign.proofs.assignments.assign_next.Goals as goal
 
-pub returns-in_err-value-clause-does : goal.returns-in_err-value-clause-does
-returns-in_err-value-clause-does g c =
+pub returns-in_err-value : goal.returns-in_err-value
+returns-in_err-value g c =
     let old = c.args.engine.now in
     let h = does_stop _ _ (value_for (key_at old.names c.args.key)) (λ v n. change (set c.args.global (key_at old.names c.args.key) v)) (lawful_value (key_at old.names c.args.key)) (lawful_set c.args.global (key_at old.names c.args.key)) _ _ _ _ _ _ _ c.requires.sound c.in_err-value.ensures.does in search (rules, h)
 
-pub returns-clause-does : goal.returns-clause-does
-returns-clause-does g c =
+pub returns : goal.returns
+returns g c =
     let old = c.args.engine.now in let mid = c.value_for.new.engine in let new = c.set.new.engine in
     does_then _ _ (value_for (key_at old.names c.args.key)) (λ v n. change (set c.args.global (key_at old.names c.args.key) v)) (lawful_value (key_at old.names c.args.key)) (lawful_set c.args.global (key_at old.names c.args.key)) (value_at mid.names c.in_ok-value.value) c.set.result _ mid new _ _ _ _ _ _ c.in_ok-value.ensures.does
     (does_local _ _ (change (set c.args.global (key_at old.names c.args.key) (value_at mid.names c.in_ok-value.value))) (plain_set c.args.global (key_at old.names c.args.key) (value_at mid.names c.in_ok-value.value)) c.set.result mid new _ _ c.in_ok-value.ensures.does.holds.owns (rw (same_key c.args.key c.requires.key old.names mid.names) c.set.ensures.sets) c.set.ensures.kept c.set.ensures.keeps c.set.ensures.advances c.set.ensures.files c.set.ensures.puts)

@@ -1,6 +1,7 @@
 use Rattle.std.proofs.Common.{Ok, Err, Option, rules}
 use Rattle.std.specs.Option.{option_map}
 use Rattle.texml_scope.specs.Numbers.{value_at}
+use Rattle.texml_expand.specs.Contract.{outside}
 use Rattle.texml_expand.specs.Held.{ok_at}
 use Rattle.texml_expand.specs.Fronts.{looked_at}
 use Rattle.texml_expand.specs.Hearing.{hears, hears_part}

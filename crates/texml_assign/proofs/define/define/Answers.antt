@@ -13,22 +13,22 @@ use Rattle.texml_assign.proofs.Worlds.{key_stays}
 use Rattle.texml_assign.proofs.Commands.{plain_next_key, plain_assign, lawful_defined, key_taken, lawful_key_taken}
 use Rattle.texml_assign.proofs.define.define.Goals as goal
 
-pub returns-in_err-key-clause-does : goal.returns-in_err-key-clause-does
-returns-in_err-key-clause-does g c =
+pub returns-in_err-key : goal.returns-in_err-key
+returns-in_err-key g c =
     let M : ByDepth Meaning = defined c.args.expanding c.args.long in let L : Lawful M = lawful_defined c.args.expanding c.args.long in
     let h = does_stop _ _ (λ n. next_key) (key_taken c.args.global M) (lawful_plain next_key plain_next_key) (lawful_key_taken c.args.global M L) _ _ _ _ _ _ _ c.requires.sound c.in_err-key.ensures.does in
     search (rules, h)
 
-pub returns-in_err-meaning-clause-does : goal.returns-in_err-meaning-clause-does
-returns-in_err-meaning-clause-does g c =
+pub returns-in_err-meaning : goal.returns-in_err-meaning
+returns-in_err-meaning g c =
     let M : ByDepth Meaning = defined c.args.expanding c.args.long in let L : Lawful M = lawful_defined c.args.expanding c.args.long in
     let f = c.in_ok-key.ensures.does in let k = key_at c.next_key.new.engine.names c.in_ok-key.key in
     let h = does_then _ _ (λ n. next_key) (key_taken c.args.global M) (lawful_plain next_key plain_next_key) (lawful_key_taken c.args.global M L) k _ _ _ _ _ _ _ _ _ _ f
     (does_stop _ _ M (λ m n. change (assign c.args.global k m)) L (λ m. lawful_plain (change (assign c.args.global k m)) (plain_assign c.args.global k m)) _ _ _ _ _ _ _ f.keeps.sound c.in_err-meaning.ensures.does) in
     search (rules, h)
 
-pub returns-clause-does : goal.returns-clause-does
-returns-clause-does g c =
+pub returns : goal.returns
+returns g c =
     let M : ByDepth Meaning = defined c.args.expanding c.args.long in let L : Lawful M = lawful_defined c.args.expanding c.args.long in
     let f = c.in_ok-key.ensures.does in let e1 = c.next_key.new.engine in let k = key_at e1.names c.in_ok-key.key in
     let d = c.in_ok-meaning.ensures.does in let e2 = c.defined.new.engine in let m = meaning_at e2.names c.in_ok-meaning.meaning in let new = c.assign.new.engine in

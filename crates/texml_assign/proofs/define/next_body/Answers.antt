@@ -1,9 +1,10 @@
-use Rattle.std.proofs.Common.{Ok, Err, rules}
+use Rattle.std.proofs.Common.{Ok, Err}
 use Rattle.texml_token.specs.Numbers.{tokens_at}
 use Rattle.texml_expand.specs.Absorb.{absorb}
 use Rattle.texml_expand.specs.Held.{Kept, ok_at}
 use Rattle.texml_expand.specs.Hearing.{hears, hears_part}
 use Rattle.texml_assign.specs.Define.{body_said}
+use Rattle.texml_expand.proofs.Stopping.{passed_on}
 use Rattle.texml_assign.proofs.Doing.{does_call, does_then, does_stop, kept_of, keeps_of, does_judge, no_more}
 use Rattle.texml_assign.proofs.Commands.{lawful_absorb, lawful_body_said, plain_body_said}
 use Rattle.texml_assign.proofs.define.next_body.Goals as goal
@@ -13,7 +14,7 @@ returns-in_err-list-clause-does g c =
     let ex = c.args.expanding in let slots = c.args.slots in let f = c.in_err-list.ensures in let mid = c.absorb.new.self in let run = c.requires.running in
     let s = does_call (hears g.T.Teller.wanting g.T.Teller.heard) (hears_part g.T.Teller.wanting g.T.Teller.part) (absorb ex) (tokens_at mid.names) (Err c.in_err-list.field-0.0) c.args.engine.now mid _ _ _ _ (f.follows run) (f.stops run) (f.limit run) tt f.progress f.holds tt in
     let h = does_stop _ _ (absorb ex) (λ list n. body_said slots list) (lawful_absorb ex) (lawful_body_said slots) _ _ _ _ _ _ _ c.requires.sound s in
-    search (rules, h)
+    rw (passed_on c.from_residual.result c.in_err-list.field-0.0 c.from_residual.ensures) h
 
 pub returns-clause-does : goal.returns-clause-does
 returns-clause-does g c =

@@ -1,4 +1,4 @@
-use Rattle.std.proofs.Common.{Bool, if◌then◌else◌, Ok, Err, None, Some, refl, sym, ap, ◌∙◌, rules, arith}
+use Rattle.std.proofs.Common.{Bool, if◌then◌else◌, Ok, Err, None, Some, refl, sym, ap, ◌∙◌, arith}
 use Rattle.std.specs.Option.{option_map}
 use Rattle.texml_expand.specs.State.{Done, give, nothing}
 use Rattle.texml_expand.specs.Held.{state_of}
@@ -9,6 +9,7 @@ use Rattle.texml_assign.specs.Loop.{On, Over}
 use Rattle.texml_assign.specs.Fillers.{filler_turn, filler_loop}
 use Rattle.texml_assign.proofs.Readings.{plain_give}
 use Rattle.texml_expand.proofs.Running.{shrinks_then}
+use Rattle.texml_expand.proofs.Stopping.{passed_on}
 use Rattle.texml_assign.proofs.Doing.{does_call, does_now, does_out, goes_stops, goes_ends, goes_turn_stops, goes_over, goes_on, no_more, shrinks_on}
 use Rattle.texml_assign.proofs.Quantities.{plain_filler_turn, filler_laws}
 use Rattle.texml_assign.proofs.fillers.first_behind.Goals as goal
@@ -17,7 +18,8 @@ pub returns-in_err-looked-clause-does : goal.returns-in_err-looked-clause-does
 returns-in_err-looked-clause-does g c =
     let i = c.tokens.invariant in let run = i.going.running in let f = c.in_err-looked.ensures in let mid = c.look.new.self in let q = c.args.filler in
     let s = does_call (hears g.T.Teller.wanting g.T.Teller.heard) (hears_part g.T.Teller.wanting g.T.Teller.part) look (option_map (looked_at mid.names)) (Err c.in_err-looked.field-0.0) c.tokens.engine mid _ _ _ _ (f.follows run) (f.stops run) (f.limit run) tt f.progress f.holds tt in
-    let h = goes_stops _ _ (filler_loop q) (filler_laws q) _ tt tt _ _ _ _ _ _ _ _ _ i.going s in search (rules, h)
+    let h = goes_stops _ _ (filler_loop q) (filler_laws q) _ tt tt _ _ _ _ _ _ _ _ _ i.going s in
+    rw (passed_on c.from_residual.result c.in_err-looked.field-0.0 c.from_residual.ensures) h
 
 pub returns-in-None-clause-does : goal.returns-in-None-clause-does
 returns-in-None-clause-does g c =

@@ -8,11 +8,11 @@ use Rattle.texml_assign.proofs.Doing.{does_stop_sure, does_put}
 use Rattle.texml_assign.proofs.Quantities.{lawful_first, sure_put, put_decided, put_unlimited}
 use Rattle.texml_assign.proofs.fillers.ignore_spaces.Goals as goal
 
-pub returns-in_err-first-clause-does : goal.returns-in_err-first-clause-does
-returns-in_err-first-clause-does g c =
+pub returns-in_err-first : goal.returns-in_err-first
+returns-in_err-first g c =
     let h = does_stop_sure _ _ (first_behind Spaces) (λ o n. put_looked o) (lawful_first Spaces) sure_put _ _ _ _ _ _ _ c.requires.sound c.in_err-first.ensures.does in search (rules, h)
 
-pub returns-clause-does : goal.returns-clause-does
-returns-clause-does g c =
+pub returns : goal.returns
+returns g c =
     let mid = c.first_behind.new.engine in let new = c.put_looked.new.engine in let o : Option Looked = option_map (looked_at mid.names) c.in_ok-first.first in let r = c.put_looked.ensures in
     does_put _ _ _ (first_behind Spaces) put_looked (lawful_first Spaces) put_decided put_unlimited o c.put_looked.result _ mid new _ _ _ _ c.in_ok-first.ensures.does c.in_ok-first.ensures.takes r.is r.kept r.keeps r.advances r.files r.puts

@@ -1,6 +1,7 @@
 use Rattle.std.proofs.Common.{Option, Ok, Err, length, rules, arith}
 use Rattle.std.specs.Option.{option_map}
 use Rattle.texml_token.specs.Numbers.{tokens_at}
+use Rattle.texml_expand.specs.Contract.{outside}
 use Rattle.texml_expand.specs.Held.{ok_at}
 use Rattle.texml_expand.specs.Fronts.{looked_at}
 use Rattle.texml_expand.specs.Quantities.{Looked}

@@ -9,15 +9,15 @@ use Rattle.texml_assign.proofs.Quantities.{relaxes, lawful_short_equals}
 use Rattle.texml_assign.proofs.Worlds.{key_stays}
 use Rattle.texml_assign.proofs.short_names.short_key.Goals as goal
 
-pub returns-in_err-assign-clause-does : goal.returns-in_err-assign-clause-does
-returns-in_err-assign-clause-does g c =
+pub returns-in_err-assign : goal.returns-in_err-assign
+returns-in_err-assign g c =
     let old = c.args.engine.now in let mid = c.assign.new.engine in let k = c.in_err-assign.ensures in let e = c.in_err-assign.field-0.0 in let key = key_at old.names c.args.key in
     let h = does_stop (hears g.T.Teller.wanting g.T.Teller.heard) (hears_part g.T.Teller.wanting g.T.Teller.part) (λ n. relaxes c.args.global key) (λ _. short_equals c.args.global c.args.what key) (lawful_plain (relaxes c.args.global key) (plain_assign c.args.global key _)) (λ _. lawful_short_equals c.args.global c.args.what key) e old mid _ _ _ _ c.requires.sound
     (does_local _ _ (relaxes c.args.global key) (plain_assign c.args.global key _) (Err e) old mid (outside (g.F.Files.shelf c.args.files.now) (g.F.Files.faults c.args.files.now) (g.T.Teller.faults c.args.tell.now) (g.T.Teller.loan c.args.tell.now)) c.args.tell.now c.requires.owns k.sets k.kept tt k.advances k.files tt) in
     search (rules, h)
 
-pub returns-clause-does : goal.returns-clause-does
-returns-clause-does g c =
+pub returns : goal.returns
+returns g c =
     let old = c.args.engine.now in let mid = c.assign.new.engine in let k = c.in_ok-assign.ensures in let key = key_at old.names c.args.key in let new = c.short_equals.new.engine in
     let s = does_local (hears g.T.Teller.wanting g.T.Teller.heard) (hears_part g.T.Teller.wanting g.T.Teller.part) (relaxes c.args.global key) (plain_assign c.args.global key _) (Ok tt) old mid (outside (g.F.Files.shelf c.args.files.now) (g.F.Files.faults c.args.files.now) (g.T.Teller.faults c.args.tell.now) (g.T.Teller.loan c.args.tell.now)) c.args.tell.now c.requires.owns k.sets k.kept k.keeps k.advances k.files k.puts in
     does_then _ _ (λ n. relaxes c.args.global key) (λ _. short_equals c.args.global c.args.what key) (lawful_plain (relaxes c.args.global key) (plain_assign c.args.global key _)) (λ _. lawful_short_equals c.args.global c.args.what key) tt c.short_equals.result old mid new _ _ _ _ _ _ s

@@ -12,8 +12,8 @@ use Rattle.texml_assign.proofs.Quantities.{lawful_index_of}
 use Rattle.texml_assign.proofs.Worlds.{key_stays}
 use Rattle.texml_assign.proofs.short_names.short_number.Goals as goal
 
-pub returns-in_err-number-clause-does : goal.returns-in_err-number-clause-does
-returns-in_err-number-clause-does g c =
+pub returns-in_err-number : goal.returns-in_err-number
+returns-in_err-number g c =
     let run = c.requires.running in let f = c.in_err-number.ensures in let old = c.args.engine.now in let mid = c.read_index.new.self in
     let s = rw c.short_index.ensures at (does_call (hears g.T.Teller.wanting g.T.Teller.heard) (hears_part g.T.Teller.wanting g.T.Teller.part) (read_index c.short_index.result) (λ z. z) (Err c.in_err-number.field-0.0) old mid _ _ _ _ (f.follows run) (f.stops run) (f.limit run) tt f.progress f.holds tt) in
     let h = does_stop _ _ (read_index (short_index c.args.what)) (λ number n. change (assign c.args.global (key_at old.names c.args.key) (short_meaning c.args.what number))) (lawful_index_of (short_index c.args.what)) (λ number. lawful_plain (change (assign c.args.global (key_at old.names c.args.key) (short_meaning c.args.what number))) (plain_assign c.args.global (key_at old.names c.args.key) (short_meaning c.args.what number))) _ _ _ _ _ _ _ c.requires.sound s in search (rules, h)
@@ -21,8 +21,8 @@ returns-in_err-number-clause-does g c =
 pub assign-requires-clause-meaning : goal.assign-requires-clause-meaning
 assign-requires-clause-meaning g c = c.short_meaning.ensures.within _
 
-pub returns-clause-does : goal.returns-clause-does
-returns-clause-does g c =
+pub returns : goal.returns
+returns g c =
     let run = c.requires.running in let f = c.in_ok-number.ensures in let old = c.args.engine.now in let mid = c.read_index.new.self in let z = c.in_ok-number.number in let new = c.assign.new.engine in
     let s = rw c.short_index.ensures at (does_call (hears g.T.Teller.wanting g.T.Teller.heard) (hears_part g.T.Teller.wanting g.T.Teller.part) (read_index c.short_index.result) (λ z. z) (Ok z) old mid _ _ _ _ (f.follows run) (f.stops run) tt (f.keeps run) f.progress f.holds (no_more (f.lower run))) in
     let m = short_meaning c.args.what z in let key = key_at old.names c.args.key in
