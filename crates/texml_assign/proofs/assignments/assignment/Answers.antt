@@ -12,7 +12,9 @@ returns-in_err-key g c =
     let h = does_stop _ _ (target_key c.args.target) (assign_to c.args.global) (lawful_target c.args.target) (lawful_assign_to c.args.global) _ _ _ _ _ _ _ c.requires.sound c.in_err-key.ensures.does in search (rules, h)
 
 pub returns : goal.returns
-returns g c =
+returns g c = record {
+  does =
     let old = c.args.engine.now in let mid = c.target_key.new.engine in let new = c.assign_to.new.engine in
     does_then _ _ (target_key c.args.target) (assign_to c.args.global) (lawful_target c.args.target) (lawful_assign_to c.args.global) (key_at mid.names c.in_ok-key.key) c.assign_to.result _ mid new _ _ _ _ _ _ c.in_ok-key.ensures.does
-    c.assign_to.ensures.does
+    c.assign_to.ensures.does;
+}

@@ -12,7 +12,9 @@ returns-in_err-found g c =
     let h = does_stop _ _ (prefixed p) (λ f. perform f.0 f.1) (lawful_prefixed p) (λ f. lawful_perform f.0 f.1) _ _ _ _ _ _ _ c.requires.sound d in search (rules, h)
 
 pub returns : goal.returns
-returns g c =
+returns g c = record {
+  does =
     let p = with_prefix no_prefixes c.args.prefix in
     let d = rw c.with_prefix-first.ensures at c.in_ok-found.ensures.does in
-    does_then _ _ (prefixed p) (λ f. perform f.0 f.1) (lawful_prefixed p) (λ f. lawful_perform f.0 f.1) c.in_ok-found.found _ _ _ _ _ _ _ _ _ _ d c.perform.ensures.does
+    does_then _ _ (prefixed p) (λ f. perform f.0 f.1) (lawful_prefixed p) (λ f. lawful_perform f.0 f.1) c.in_ok-found.found _ _ _ _ _ _ _ _ _ _ d c.perform.ensures.does;
+}

@@ -12,6 +12,8 @@ returns-in_err-list g c =
     let h = does_stop_sure _ _ next_group (λ list n. change (put_in_case case list)) lawful_next_group (sure_case case) _ _ _ _ _ _ _ c.requires.sound c.in_err-list.ensures.does in search (rules, h)
 
 pub returns : goal.returns
-returns g c =
+returns g c = record {
+  does =
     let case = c.args.case in let mid = c.next_group.new.engine in let new = c.put_in_case.new.engine in let list = tokens_at mid.names c.in_ok-list.list in let r = c.put_in_case.ensures in
-    does_put _ _ _ next_group (λ list. change (put_in_case case list)) lawful_next_group (λ list s. tt) (λ list s. tt) list c.put_in_case.result _ mid new _ _ _ _ c.in_ok-list.ensures.does c.in_ok-list.ensures.takes r.changes r.kept r.keeps r.advances r.files r.puts
+    does_put _ _ _ next_group (λ list. change (put_in_case case list)) lawful_next_group (λ list s. tt) (λ list s. tt) list c.put_in_case.result _ mid new _ _ _ _ c.in_ok-list.ensures.does c.in_ok-list.ensures.takes r.changes r.kept r.keeps r.advances r.files r.puts;
+}
