@@ -29,7 +29,7 @@ module _ (old now : Shelf) (name found : List ℕ) (id limit : ℕ) (made : Held
   starts_on there told = (
     whole_text old.contents found,
     rw (there told) refl,
-    ap (state_of now) alone ∙ rw (empty.world, empty.kept, empty.main, empty.begun, empty.limit, empty.nesting, opened.contents, text_is told) refl,
+    ap (state_of now) alone ∙ rw (empty.world, empty.kept, empty.conditionals, empty.main, empty.begun, empty.limit, empty.nesting, opened.contents, text_is told) refl,
   )
 
 -- a file that isn't there

@@ -55,6 +55,7 @@ first_state contents file limit text = record {
   limit = limit;
   nesting = 0;
   place = before file;
+  conditionals = [];
   job = file;
   contents = contents;
 }

@@ -22,6 +22,7 @@ pub record IsEmpty (name : List ℕ) (most : ℕ) (engine : Held) : Type 0 where
   pub world : world_in engine ≡ first_world
   pub input : engine.input ≡ record { sources = []; place = no_place; fault = None }
   pub kept : engine.kept ≡ None
+  pub conditionals : engine.conditionals ≡ []
   pub main : engine.main ≡ name
   pub begun : engine.begun ≡ 0
   pub limit : engine.limit ≡ most
