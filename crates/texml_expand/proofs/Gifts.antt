@@ -30,7 +30,7 @@ ok_then (Ok v) j k m a b c old mid new s t le = shrinks_then j k m a b c old mid
 ok_then (Err e) j k m a b c old mid new s t le = tt
 
 -- an expansion began, and then only read and ended
-pub ended_begun : (a b : Shelf) (h mid now new : Held) (r : Result (Unit {0}) Stop) → mid ≡ record h { begun = h.begun + 1; nesting = h.nesting + 1 } → mid.begun ≤ mid.limit → Shrinks 0 a mid b now → OnOk r (new.nesting ≡ now.nesting - 1)
+pub ended_begun : {A : Type 0} (a b : Shelf) (h mid now new : Held) (r : Result A Stop) → mid ≡ record h { begun = h.begun + 1; nesting = h.nesting + 1 } → mid.begun ≤ mid.limit → Shrinks 0 a mid b now → OnOk r (new.nesting ≡ now.nesting - 1)
     → OnOk r (new.begun ≡ now.begun) → new.limit ≡ now.limit → OnOk r (Begun h new)
 ended_begun a b h mid now new (Ok v) e fits l nested same limit = record {
   limit = limit ∙ l.limit ∙ ap (λ (m : Held). m.limit) e;

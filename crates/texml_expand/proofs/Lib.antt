@@ -23,6 +23,7 @@ pub mod Meeting
 mod Rows
 pub mod Scanning
 pub mod Printing
+pub mod Copying
 pub mod Counting
 pub mod Spelled
 pub mod Named

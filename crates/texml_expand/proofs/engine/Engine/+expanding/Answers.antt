@@ -53,6 +53,7 @@ use Rattle.texml_expand.proofs.Levels.{lawful_decimal, lawful_roman_numeral}
 use Rattle.texml_expand.proofs.Looking.{lawful_the}
 use Rattle.texml_expand.proofs.Giving.{lawful_string, lawful_job, lawful_no_expand}
 use Rattle.texml_expand.proofs.Branching.{lawful_two_faces, lawful_same_meanings, lawful_compared, lawful_number, lawful_open_test, lawful_chosen, lawful_part_end}
+use Rattle.texml_expand.proofs.Copying.{copy_stops, copy_unread, copy_ends, copied_did}
 use Rattle.texml_expand.proofs.Gifts.{puts_stops, puts_does, ok_then, ended_begun}
 use Rattle.texml_expand.proofs.Testing.{face_stops, face_ends, face_out, face_does, faces_stop, faces_do, first_face_stops, dimension_stops, dimension_does, amount_as, relation_stops, relation_does, compared_first, compared_second, compared_third, compared_does, choice_stops, choice_does, tested_as, unopened, untested, unchosen, conditional_does}
 use Rattle.texml_expand.proofs.Worth.{dimen_same}
@@ -1246,8 +1247,8 @@ expand_after-returns-in-Plain-clause-lower g t c =
     let second = rw c.in-Plain.is at c.in_ok-front.ensures.lower in
     ok_same c.puts.result 0 _ _ _ c.front.new.self c.puts.new.self (shrinks_then 1 1 0 _ _ _ _ c.one_token.new.self _ c.in_ok-first.ensures.lower second (omega arith)) c.puts.ensures.same
 
-pub expand_after-returns-in-Expands-clause-lower : goal.expand_after-returns-in-Expands-clause-lower
-expand_after-returns-in-Expands-clause-lower g t c =
+pub expand_after-returns-in_ok-expand-in-Expands-clause-lower : goal.expand_after-returns-in-Expands-clause-lower
+expand_after-returns-in_ok-expand-in-Expands-clause-lower g t c =
     let second = rw c.in-Expands.is at c.in_ok-front.ensures.lower in
     let before = shrinks_then 1 1 1 _ _ _ _ c.one_token.new.self _ c.in_ok-first.ensures.lower second (omega arith) in
     ok_same c.puts-in-Expands.result 0 _ _ _ c.expand.new.self c.puts-in-Expands.new.self (shrinks_begun 1 0 _ _ _ _ c.front.new.self _ before c.in_ok-expand-in-Expands.ensures.begins) c.puts-in-Expands.ensures.same
@@ -1413,3 +1414,57 @@ at_once-returns-in_ok-expand-clause-does g t c =
     let mine = c.args.self.now in
     let is = sym (c.copies.ensures mine.names) ∙ c.if-copies.false in
     rw c.new.ensures (once_expanded (hears T.wanting T.heard) (hears_part T.wanting T.part) (token_at mine.names c.args.token) (expandable_at mine.names c.args.found) (copies c.args.gathering (expandable_at mine.names c.args.found)) _ _ _ _ _ _ is c.in_ok-expand.ensures.does)
+
+-- what \the gives at once
+
+pub copy-returns-in_err-begin-clause-does : goal.copy-returns-in_err-begin-clause-does
+copy-returns-in_err-begin-clause-does g t c =
+    let T = g.T.Teller in
+    let F = g.F.Files in
+    let b = c.in_err-begin.ensures in
+    let mine = c.args.self.now in
+    let d = begins_did (hears T.wanting T.heard) (hears_part T.wanting T.part) _ mine c.begin.new.self (outside (F.shelf c.args.files.now) (F.faults c.args.files.now) (T.faults c.args.tell.now) (T.loan c.args.tell.now)) c.args.tell.now c.requires.sound b.begins b.kept tt tt b.limit b.progress b.files c.requires.owns in
+    let h = copy_stops (hears T.wanting T.heard) (hears_part T.wanting T.part) (token_at mine.names c.args.token) _ _ _ _ _ d in
+    search (rules, h)
+
+pub copy-returns-in_err-internal-clause-does : goal.copy-returns-in_err-internal-clause-does
+copy-returns-in_err-internal-clause-does g t c =
+    let T = g.T.Teller in
+    let F = g.F.Files in
+    let b = c.in_ok-begin.ensures in
+    let mine = c.args.self.now in
+    let d = begins_did (hears T.wanting T.heard) (hears_part T.wanting T.part) _ mine c.begin.new.self (outside (F.shelf c.args.files.now) (F.faults c.args.files.now) (T.faults c.args.tell.now) (T.loan c.args.tell.now)) c.args.tell.now c.requires.sound b.begins b.kept b.is b.within b.limit b.progress b.files c.requires.owns in
+    let h = copy_unread (hears T.wanting T.heard) (hears_part T.wanting T.part) (token_at mine.names c.args.token) _ _ _ _ _ _ _ _ d c.in_err-internal.ensures.does in
+    search (rules, h)
+
+pub copy-returns-clause-does : goal.copy-returns-clause-does
+copy-returns-clause-does g t c =
+    let T = g.T.Teller in
+    let F = g.F.Files in
+    let b = c.in_ok-begin.ensures in
+    let l = c.in_ok-internal.ensures in
+    let e = c.copied.ensures in
+    let mine = c.args.self.now in
+    let now = c.next_internal.new.self in
+    let new = c.copied.new.self in
+    let d = begins_did (hears T.wanting T.heard) (hears_part T.wanting T.part) _ mine c.begin.new.self (outside (F.shelf c.args.files.now) (F.faults c.args.files.now) (T.faults c.args.tell.now) (T.loan c.args.tell.now)) c.args.tell.now c.requires.sound b.begins b.kept b.is b.within b.limit b.progress b.files c.requires.owns in
+    let names = subst (λ (h : Held). Extends h.names now.names) b.is l.does.progress.names in
+    let u = copied_did (hears T.wanting T.heard) (hears_part T.wanting T.part) (tokens_at new.names) (token_at mine.names c.args.token) _ (internal_at now.names c.in_ok-internal.internal) c.copied.result now new _ _ _ _ _ _ _ _ (token_kept mine.names now.names names c.args.token c.requires.token) e.copies e.stops e.keeps e.limit e.progress e.files l.does.holds.owns in
+    copy_ends (hears T.wanting T.heard) (hears_part T.wanting T.part) (token_at mine.names c.args.token) (internal_at now.names c.in_ok-internal.internal) _ _ _ _ _ _ _ _ _ _ _ d l.does u
+
+pub copy-returns-clause-begins : goal.copy-returns-clause-begins
+copy-returns-clause-begins g t c =
+    let b = c.in_ok-begin.ensures in
+    let e = c.copied.ensures in
+    ended_begun _ _ c.args.self.now c.begin.new.self c.next_internal.new.self c.copied.new.self c.copied.result b.is b.within c.in_ok-internal.ensures.lower e.nesting e.begun e.progress.limit
+
+pub copy-next_internal-requires : goal.copy-next_internal-requires
+copy-next_internal-requires g t c κs within =
+    let b = c.in_ok-begin.ensures in
+    let mine = c.args.self.now in
+    let mid = c.begin.new.self in
+    let kept = begun_kept mine mid b.is b.within c.requires.sound in
+    let owns = owns_same (g.F.Files.shelf c.args.files.now) mine mid c.requires.owns b.files in
+    let nesting = ap (λ (h : Held). h.nesting) b.is in
+    let deep = b.nested in
+    (omega (arith, c.decreases, nesting, deep), (within.0, (within.1, (b.kept, (kept.sound, owns)))))
