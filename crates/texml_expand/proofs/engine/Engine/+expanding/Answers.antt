@@ -66,7 +66,7 @@ use Rattle.texml_expand.specs.Names.{name_of}
 use Rattle.texml_expand.specs.Fronts.{gift_at}
 use Rattle.texml_expand.proofs.Standing.{lawful_front}
 use Rattle.texml_expand.proofs.Giving.{lawful_one_token, lawful_behind_first, lawful_name_of}
-use Rattle.texml_expand.proofs.Running.{shrinks_begun, ok_puts}
+use Rattle.texml_expand.proofs.Running.{ok_puts}
 use Rattle.texml_expand.proofs.Behind.{after_stops, after_first, second_stops, second_is, behind_plain, behind_stops, behind_expands, name_stops, name_does}
 use Rattle.texml_expand.specs.Front.{Plain}
 use Rattle.texml_expand.specs.Gathering.{copies}
@@ -1247,12 +1247,6 @@ expand_after-returns-in-Plain-clause-lower g t c =
     let second = rw c.in-Plain.is at c.in_ok-front.ensures.lower in
     ok_same c.puts.result 0 _ _ _ c.front.new.self c.puts.new.self (shrinks_then 1 1 0 _ _ _ _ c.one_token.new.self _ c.in_ok-first.ensures.lower second (omega arith)) c.puts.ensures.same
 
-pub expand_after-returns-in_ok-expand-in-Expands-clause-lower : goal.expand_after-returns-in-Expands-clause-lower
-expand_after-returns-in_ok-expand-in-Expands-clause-lower g t c =
-    let second = rw c.in-Expands.is at c.in_ok-front.ensures.lower in
-    let before = shrinks_then 1 1 1 _ _ _ _ c.one_token.new.self _ c.in_ok-first.ensures.lower second (omega arith) in
-    ok_same c.puts-in-Expands.result 0 _ _ _ c.expand.new.self c.puts-in-Expands.new.self (shrinks_begun 1 0 _ _ _ _ c.front.new.self _ before c.in_ok-expand-in-Expands.ensures.begins) c.puts-in-Expands.ensures.same
-
 -- \csname
 
 pub cs_name-returns-in_err-list-clause-does : goal.cs_name-returns-in_err-list-clause-does
@@ -1301,7 +1295,7 @@ gather-returns-in-Nothing-clause-does g t c =
     let mid = c.front.new.self in
     let tell = c.tokens.tell in
     let d = front_did (hears T.wanting T.heard) (hears_part T.wanting T.part) _ _ c.tokens.self mid _ _ _ _ (T.faults tell) (T.loan tell) tell c.in-Nothing.is c.in_ok-front.ensures.gets in
-    let e = c.bare_fault-in-Nothing.ensures in
+    let e = c.bare_fault.ensures in
     gather_ends (hears T.wanting T.heard) (hears_part T.wanting T.part) c.args.gathering _ _ _ mid _ _ _ _ _ _ _ i d e.is e.kept
 
 pub gather-returns-in-Err-clause-does : goal.gather-returns-in-Err-clause-does
@@ -1348,7 +1342,7 @@ gather-returns-in-Refuses-clause-does g t c =
     let tell = c.tokens.tell in
     let d = front_did (hears T.wanting T.heard) (hears_part T.wanting T.part) _ _ c.tokens.self mid _ _ _ _ (T.faults tell) (T.loan tell) tell c.in-Plain.is c.in_ok-front.ensures.gets in
     let is = rw c.in-Refuses.is at c.in-Ok.ensures.is in
-    let e = c.bare_fault.ensures in
+    let e = c.bare_fault-in-Refuses.ensures in
     gather_refuses (hears T.wanting T.heard) (hears_part T.wanting T.part) c.args.gathering c.in-Refuses.code _ c.in-Plain.read _ _ mid _ _ _ _ _ _ _ i d is e.is e.kept
 
 pub gather-tokens-preserved : goal.gather-tokens-preserved
@@ -1374,7 +1368,7 @@ gather-returns-in_err-list-in-Expands-clause-does g t c =
     let tell = c.tokens.tell in
     let d = front_did (hears T.wanting T.heard) (hears_part T.wanting T.part) _ _ c.tokens.self mid _ _ _ _ (T.faults tell) (T.loan tell) tell c.in-Expands.is c.in_ok-front.ensures.gets in
     let h = gather_unexpanded (hears T.wanting T.heard) (hears_part T.wanting T.part) c.args.gathering (token_at mid.names c.in-Expands.token) (expandable_at mid.names c.in-Expands.found) _ _ _ mid _ _ _ _ _ _ _ _ _ i d c.in_err-list-in-Expands.ensures.does in
-    search (rules, h)
+    rw (passed_on c.from_residual-in_err-list-in-Expands.result c.in_err-list-in-Expands.field-0.0 c.from_residual-in_err-list-in-Expands.ensures) h
 
 pub gather-returns-in-Err-extend-clause-does : goal.gather-returns-in-Err-extend-clause-does
 gather-returns-in-Err-extend-clause-does g t c =
