@@ -1,5 +1,5 @@
 -- Calls that go together: what each does by the one answer of its reading.
-use Rattle.std.proofs.Common.{◌≡◌, ℕ, IsTrue, List, Option, None, Some, Result, Ok, Err, refl, sym, subst}
+use Rattle.std.proofs.Common.{◌≡◌, ℕ, IsTrue, List, None, Some, Result, Ok, Err, refl, sym, subst}
 use Rattle.std.specs.Result.{OnOk}
 use Rattle.texml_base.specs.Outside.{Shelf}
 use Rattle.texml_token.specs.Numbers.{Table}

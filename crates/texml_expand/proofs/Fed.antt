@@ -1,5 +1,5 @@
 -- Tokens that are fed until they decide, as the readings by the least number of next tokens see them.
-use Rattle.std.proofs.Common.{◌≡◌, ◌+◌, ◌≤◌, ◌<◌, ℕ, suc, true, false, List, [], ◌∷◌, ◌++◌, length, length-append, append_assoc, take, take_all, IsTrue, None, Some, Result, Ok, Err, refl, sym, ap, ◌∙◌, subst, arith, inl, inr}
+use Rattle.std.proofs.Common.{◌≡◌, ◌≤◌, ◌<◌, ℕ, suc, true, false, List, [], ◌∷◌, ◌++◌, length, length-append, append_assoc, take, take_all, IsTrue, None, Some, Result, Ok, Err, refl, sym, ap, ◌∙◌, subst, arith, inl, inr}
 use Rattle.std.proofs.lemmas.Bool.{cases_lt}
 use Rattle.std.proofs.lemmas.List.{map-append, length-map, take-append-le}
 use Rattle.std.proofs.lemmas.List.Elements.{All-nil, All-push, All-take}
@@ -13,7 +13,7 @@ use Rattle.texml_expand.specs.declared.stop.Stop.{Stop}
 use Rattle.texml_expand.specs.declared.stop.Stop.TheVariants as stop
 use Rattle.texml_expand.specs.declared.feeding.Verdict.{Verdict}
 use Rattle.texml_expand.specs.declared.feeding.Verdict.TheVariants.{TooShort, Yields, Refuses}
-use Rattle.texml_expand.specs.State.{State, End, Tex, Limit, room, nothing, Answer, Done, Ended, after, chain, give}
+use Rattle.texml_expand.specs.State.{State, End, Tex, Limit, nothing, Answer, Done, Ended, after, chain, give}
 use Rattle.texml_expand.specs.Held.{Held, place_of, state_of, Sound, Kept, Owns, Shrinks, ok_at}
 use Rattle.texml_expand.specs.Contract.{Quiet, Outside, IsFaultAt}
 use Rattle.texml_expand.specs.Doing.{Gets, Runs}

@@ -1,11 +1,11 @@
 -- Calls that tell nobody, one after the other.
-use Rattle.std.proofs.Common.{◌≡◌, ℕ, IsTrue, List, None, Some, Result, Ok, Err, refl, sym, subst}
+use Rattle.std.proofs.Common.{◌≡◌, ℕ, List, None, Some, Result, Ok, Err, refl, sym, subst}
 use Rattle.std.specs.Result.{OnOk}
 use Rattle.texml_token.specs.Numbers.{Table}
 use Rattle.texml_expand.specs.declared.stop.Stop.{Stop}
 use Rattle.texml_expand.specs.declared.stop.Stop.TheVariants as stop
-use Rattle.texml_expand.specs.State.{State, nothing, Tex, Answer, Done, Ended, Reading, ◌>>=◌, chain, give, fault_at}
-use Rattle.texml_expand.specs.Contract.{Silent, Local, Quiet, Reads, Outside, IsFaultAt, stop_after}
+use Rattle.texml_expand.specs.State.{nothing, Tex, Done, Ended, Reading, ◌>>=◌, give, fault_at}
+use Rattle.texml_expand.specs.Contract.{Local, Quiet, Reads, Outside, IsFaultAt, stop_after}
 use Rattle.texml_expand.specs.Held.{Held, place_of, state_of, Sound, Kept, Progress, IsAtLimit, Owns, SameFiles, ok_at}
 use Rattle.texml_expand.specs.Doing.{Gets, Runs}
 use Rattle.texml_expand.proofs.Meeting.{silent_fails_not}

@@ -20,7 +20,7 @@ use Rattle.texml_expand.specs.Calls.{Gift, Puts, Freezes, Calls}
 use Rattle.texml_expand.specs.Quantities.{needed}
 use Rattle.texml_expand.specs.Front.{Front, Nothing, Plain, Expands, front}
 use Rattle.texml_expand.specs.Expansion.{puts, one_token, behind_first, expand_after, no_expand, escape_of, spelled_now, string, job_name, job}
-use Rattle.texml_expand.specs.Names.{text_of, is_undefined, with_name, named, cs_name}
+use Rattle.texml_expand.specs.Names.{text_of, is_undefined, with_name, named, name_of, cs_name}
 use Rattle.texml_expand.specs.Contract.{Lower}
 use Rattle.texml_expand.proofs.Leading.{lower_none}
 use Rattle.texml_expand.proofs.Lawful.{By, Lawful, lawful_give, lawful_fail, lawful_by, lawful_then, lawful_change, lawful_expand, lawful_gather}
@@ -44,11 +44,14 @@ lawful_behind_first first Nothing = lawful_fail Gift FILE_ENDED []
 lawful_behind_first first (Plain second) = lawful_give (Puts (first ∷ second.token ∷ []))
 lawful_behind_first first (Expands second e) = lawful_then (λ c. c.expand second e) (λ v c. give (Puts (first ∷ []))) (lawful_expand second e) (λ v. lawful_give (Puts (first ∷ [])))
 
-abbrev second_behind : Token → By Gift
+abbrev pub second_behind : Token → By Gift
 second_behind first c s = chain (front s) (λ f. behind_first c first f)
 
+pub lawful_second_behind : (first : Token) → Lawful (second_behind first)
+lawful_second_behind first = lawful_then (λ c. front) (λ f c. behind_first c first f) lawful_front (lawful_behind_first first)
+
 pub lawful_expand_after : Lawful expand_after
-lawful_expand_after = lawful_then (λ c. one_token) second_behind lawful_one_token (λ first. lawful_then (λ c. front) (λ f c. behind_first c first f) lawful_front (lawful_behind_first first))
+lawful_expand_after = lawful_then (λ c. one_token) second_behind lawful_one_token lawful_second_behind
 
 pub lawful_no_expand : Lawful (λ c. no_expand)
 lawful_no_expand = lawful_then (λ c. one_token) (λ t c. give (Freezes t)) lawful_one_token (λ t. lawful_give (Freezes t))
@@ -70,11 +73,8 @@ named_lower text s = named_by (is_undefined (meaning_in (s.world.top (NameKey te
     named_by true s = let l = lower_none s in record { limit = l.limit; nesting = l.nesting; begun = l.begun; size = l.size; within = l.within }
     named_by false s = let l = lower_none s in record { limit = l.limit; nesting = l.nesting; begun = l.begun; size = l.size; within = l.within }
 
-abbrev naming : List Token → By Gift
-naming list c s = chain (change (named (text_of list)) s) (λ v. give (Puts (Named (text_of list) ∷ [])))
-
-lawful_naming : (list : List Token) → Lawful (naming list)
-lawful_naming list = lawful_then (λ c. change (named (text_of list))) (λ v c. give (Puts (Named (text_of list) ∷ []))) (lawful_change (named (text_of list)) (named_lower (text_of list))) (λ v. lawful_give (Puts (Named (text_of list) ∷ [])))
+pub lawful_name_of : (list : List Token) → Lawful (λ c. name_of list)
+lawful_name_of list = lawful_then (λ c. change (named (text_of list))) (λ v c. give (Puts (Named (text_of list) ∷ []))) (lawful_change (named (text_of list)) (named_lower (text_of list))) (λ v. lawful_give (Puts (Named (text_of list) ∷ [])))
 
 pub lawful_cs_name : Lawful cs_name
-lawful_cs_name = lawful_then (λ c. c.gather Name []) naming (lawful_gather Name) lawful_naming
+lawful_cs_name = lawful_then (λ c. c.gather Name []) (λ list c. name_of list) (lawful_gather Name) lawful_name_of

@@ -17,7 +17,11 @@ use Rattle.texml_expand.specs.declared.feeding.Verdict.TheVariants.{TooShort, Yi
 use Rattle.texml_expand.specs.Held.{Held, Shrinks}
 use Rattle.texml_expand.specs.Absorb.{closes, absorbed}
 use Rattle.texml_expand.specs.Feeding.{IsOpen, FedBy, judge_group}
-use Rattle.texml_expand.proofs.Least.{choose_yes, choose_no}
+use Rattle.texml_expand.specs.Least.{by_least}
+use Rattle.texml_expand.proofs.Least.{choose_yes, choose_no, Decides, by_least_leads}
+use Rattle.texml_expand.specs.State.{State}
+use Rattle.texml_expand.specs.Contract.{Lower}
+use Rattle.texml_expand.proofs.Leading.{Leads, leads_weaker, lower_none, lower_then}
 use Rattle.texml_expand.proofs.Running.{shrinks_less}
 use Rattle.texml_expand.proofs.Fed.{verdict_at, Agrees}
 
@@ -58,14 +62,14 @@ closes_yes list t o e =
     let b = o.balance in
     eq-eqb (count_by (has_category END_GROUP) (list ++ t ∷ [])) (count_by (has_category BEGIN_GROUP) (list ++ t ∷ []) + 1) (omega arith)
 
-without_last : {A : Type 0} (list : List A) (t : A) → take (length (list ++ t ∷ []) - 1) (list ++ t ∷ []) ≡ list
+pub without_last : {A : Type 0} (list : List A) (t : A) → take (length (list ++ t ∷ []) - 1) (list ++ t ∷ []) ≡ list
 without_last list t =
     let n : length (list ++ t ∷ []) - 1 ≡ length list = omega (arith, length-append list (t ∷ [])) in
     ap (λ k. take k (list ++ t ∷ [])) n ∙ take-append_seam list (t ∷ [])
 
 -- the tokens of a group and one more
 module _ (texts : Table) (body : List TokenCode) (t : TokenCode) where
-  pushed : tokens_at texts (body ++ t ∷ []) ≡ tokens_at texts body ++ token_at texts t ∷ []
+  pub pushed : tokens_at texts (body ++ t ∷ []) ≡ tokens_at texts body ++ token_at texts t ∷ []
   pushed = map-append (token_at texts) body (t ∷ [])
 
   pub group_ends : IsOpen (tokens_at texts body) 0 → has_category END_GROUP (token_at texts t) ≡ true → judge_group texts (body ++ t ∷ []) ≡ Yields body
@@ -102,7 +106,7 @@ group_within group e body texts list h within =
     let is = ap (λ g. judge_group texts (g ++ list)) (sym e) ∙ h in
     subst (TokensWithin (length texts)) (sym (yields_by (closes (tokens_at texts list)) list body is)) (All-take (TokenWithin (length texts)) (length list - 1) list within)
 
-absorbed_by : (b : Bool) (list body : List TokenCode) → (length list ≡ 0 → b ≡ false) → (if b then Yields (take (length list - 1) list) else TooShort) ≡ Yields body → length body + 1 ≤ length list
+absorbed_by : {T : Type 0} (b : Bool) (list body : List T) → (length list ≡ 0 → b ≡ false) → (if b then Yields (take (length list - 1) list) else TooShort) ≡ Yields body → length body + 1 ≤ length list
 absorbed_by true [] body none e = let no : true ≡ false = none refl in cc
 absorbed_by true (t ∷ list) body none e =
     let n : body ≡ take (length (t ∷ list) - 1) (t ∷ list) = cc in
@@ -125,3 +129,14 @@ absorb_shrinks group e (Err x) a b old new h = tt
 pub absorb_within : (group : List TokenCode) → group ≡ [] → (r : Result (List TokenCode) Stop) (a b : Shelf) (old new : Held) → IfOk r (λ v. FedBy (λ texts list. judge_group texts (group ++ list)) v a old b new) → IfOk r (TokensWithin (length new.names))
 absorb_within group e (Ok body) a b old new h = group_within group e body new.names h.list h.is h.within
 absorb_within group e (Err x) a b old new h = tt
+
+-- so the definition leaves less to be read by what is absorbed, and the brace behind it
+none_closes : (list : List Token) → length list ≡ 0 → closes list ≡ false
+none_closes [] z = refl
+none_closes (t ∷ list) z = absurd (omega (arith, z))
+
+pub absorb_leads : (s : State) → Leads (λ list t. Lower (length list + 1) s t) (by_least absorbed s)
+absorb_leads s =
+    leads_weaker (Decides absorbed s) (λ list t. Lower (length list + 1) s t) (by_least absorbed s)
+    (λ body t d. lower_then (length d.list) 0 (length body + 1) s t t d.lower (lower_none t) (let n = absorbed_by (closes d.list) d.list body (none_closes d.list) d.is in omega arith))
+    (by_least_leads absorbed s)

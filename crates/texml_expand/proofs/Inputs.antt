@@ -1,5 +1,5 @@
 -- What an engine is behind a call of its input.
-use Rattle.std.proofs.Common.{◌≡◌, ◌+◌, ◌≤◌, ℕ, IsTrue, List, [], length, Option, None, Some, Result, Ok, Err, refl, sym, ap, ◌∙◌, subst, arith}
+use Rattle.std.proofs.Common.{◌≡◌, ℕ, IsTrue, List, [], length, Option, None, Some, Result, Ok, Err, refl, sym, ap, ◌∙◌, subst, arith}
 use Rattle.std.specs.Option.{option_map}
 use Rattle.texml_base.specs.Rising.{Rose}
 use Rattle.texml_base.specs.Outside.{Shelf}
@@ -9,17 +9,17 @@ use Rattle.texml_scope.specs.Shown.{world_of}
 use Rattle.texml_input.specs.Next.{next}
 use Rattle.texml_input.specs.Codes.{cats_of, end_of}
 use Rattle.texml_input.specs.Held.{Held as HeldInput, fences_of, rest_at, aside_of, SourcesWithin}
-use Rattle.texml_input.specs.Keeping.{Holds, HasInputCause}
+use Rattle.texml_input.specs.Keeping.{Holds}
 use Rattle.texml_input.specs.Answers.{given_at, IsNext}
 use Rattle.texml_input.specs.declared.fault.Read.{Read}
 use Rattle.texml_input.specs.declared.fault.InputFault.{InputFault}
 use Rattle.texml_input.specs.declared.fault.InputFault.TheVariants as fault
 use Rattle.texml_expand.specs.declared.stop.Stop.{Stop}
 use Rattle.texml_expand.specs.declared.stop.Stop.TheVariants as stop
-use Rattle.texml_expand.specs.State.{State, Tex, Done, Ended, nothing, fault_at}
+use Rattle.texml_expand.specs.State.{Done, nothing}
 use Rattle.texml_expand.specs.Expand.{take}
 use Rattle.texml_expand.specs.Contract.{IsFaultAt, ReadsBecause, TellsBecause, files_at}
-use Rattle.texml_expand.specs.Held.{Held, placed, place_of, state_of, Sound, Kept, Progress, IsAtLimit, Owns, Holding, read_at}
+use Rattle.texml_expand.specs.Held.{Held, place_of, state_of, Sound, Progress, IsAtLimit, Owns, Holding, read_at}
 use Rattle.texml_expand.specs.Doing.{Gets, Runs}
 use Rattle.texml_expand.proofs.Catcodes.{cats_same, end_same}
 use Rattle.texml_expand.proofs.Taking.{take_ok, take_invalid, take_not_utf8, next_by, given_ok, quiet_fault}

@@ -12,8 +12,11 @@ use Rattle.texml_expand.specs.declared.engine.expanding.Expandable.{Expandable a
 use Rattle.texml_expand.specs.declared.engine.expanding.Expandable.TheVariants as expandables
 use Rattle.texml_expand.specs.Branches.{Test, test_at}
 use Rattle.texml_expand.specs.Calls.{Expandable, Conditional, expandable_at, expandable}
+use Rattle.texml_input.specs.Next.{Taken}
+use Rattle.texml_expand.specs.State.{State, nothing, Done, give}
+use Rattle.texml_expand.specs.Front.{Expands, front_of, front_by}
 use Rattle.texml_expand.specs.Quantities.{relaxed, frozen_as}
-use Rattle.texml_expand.specs.Fronts.{expandable_at as expandable_by, builtin_in, expandable_in, relaxed_in, frozen_in}
+use Rattle.texml_expand.specs.Fronts.{expandable_at as expandable_by, builtin_in, expandable_in, relaxed_in, frozen_in, is_undefined}
 
 module _ (texts : Table) where
   abbrev pub meant : Option MeaningCode → Option Meaning
@@ -62,3 +65,9 @@ module _ (texts : Table) where
   frozen_at t (Some Undefined) = refl
   frozen_at t (Some (Builtin place)) = ap (relaxed (token_at texts t)) (builtin_at place) ∙ relaxed_at t (builtin_in place)
   frozen_at t (Some m) = ap (relaxed (token_at texts t)) (by_meaning (Some m)) ∙ relaxed_at t (expandable_in (Some m))
+
+  -- a token that can be expanded stands as one in front
+  pub judged_expands : (t : Taken) (m : Option MeaningCode) (e : ExpandableCode) (s : State) → is_undefined m ≡ false → expandable_in m ≡ Some e → front_by t (meant m) s ≡ Done (Expands t.token (expandable_by texts e)) s nothing
+  judged_expands t None e s u x = cc
+  judged_expands t (Some Undefined) e s u x = cc
+  judged_expands t (Some m) e s u x = ap (λ o. give (front_of t o) s) (expands_by (Some m) (Some e) x)

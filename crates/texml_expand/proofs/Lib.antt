@@ -23,7 +23,12 @@ pub mod Meeting
 mod Rows
 pub mod Scanning
 pub mod Printing
+pub mod Copying
 pub mod Counting
+pub mod Spelled
+pub mod Named
+pub mod Behind
+pub mod Absorbing
 pub mod Judging
 pub mod Faces
 pub mod Fronts
@@ -44,6 +49,8 @@ pub mod Comparing
 pub mod Gifts
 pub mod Testing
 pub mod Groups
+pub mod Gatherer
+pub mod Gathered
 pub mod Sequence
 pub mod Spacing
 pub mod Matching

@@ -1,12 +1,12 @@
 -- The place of an engine: before the first line it is in the main file.
-use Rattle.std.proofs.Common.{◌≡◌, ◌≤◌, ℕ, ◌==◌, zero, suc, true, false, Bool, if◌then◌else◌, List, [], ◌∷◌, Option, Some, None, refl, sym, ap, ◌∙◌, arith}
+use Rattle.std.proofs.Common.{◌≡◌, ℕ, ◌==◌, true, false, Bool, if◌then◌else◌, List, [], ◌∷◌, Option, Some, None, refl, sym, ap, ◌∙◌, arith}
 use Rattle.std.proofs.lemmas.Bool.{ne_eqb}
 use Rattle.texml_base.specs.Rising.{add_up}
 use Rattle.texml_token.specs.Token.{Token}
 use Rattle.texml_text.specs.Lines.{loaded}
 use Rattle.texml_text.specs.File.{Row}
 use Rattle.texml_mouth.specs.Mouth.{Spot, Bite, Gives, Dry, Bad, bites}
-use Rattle.texml_input.specs.Rest.{Item, Tok, Frozen, Text, Place, page, start}
+use Rattle.texml_input.specs.Rest.{Item, Tok, Frozen, Text, Place, start}
 use Rattle.texml_input.specs.Next.{Given, Got, AtEnd, Invalid, NotUtf8, behind, from_bite, from_row, place_at, text_next, next}
 use Rattle.texml_expand.specs.Held.{placed}
 

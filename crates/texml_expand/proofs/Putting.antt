@@ -1,6 +1,5 @@
 -- What an engine stands for when tokens are put before its rest.
-use Rattle.std.proofs.Common.{◌≡◌, ◌+◌, ◌-◌, ◌≤◌, ◌++◌, ◌∷◌, ℕ, Bool, true, false, List, map, length, Result, Ok, Err, refl, sym, ap, ap₂, ◌∙◌, subst, arith}
-use Rattle.std.specs.Result.{OnOk}
+use Rattle.std.proofs.Common.{◌≡◌, ◌-◌, ◌++◌, ◌∷◌, Bool, true, false, List, map, length, refl, ap, ◌∙◌, arith}
 use Rattle.texml_base.specs.Outside.{Shelf}
 use Rattle.texml_token.specs.declared.tokens.Token.{Token as TokenCode}
 use Rattle.texml_token.specs.Numbers.{token_at, tokens_at, TokenWithin, TokensWithin}
@@ -8,8 +7,7 @@ use Rattle.texml_token.proofs.Table.{extends_refl}
 use Rattle.texml_input.specs.Rest.{Tok, items_at}
 use Rattle.texml_input.specs.Held.{Source, Plain, Marked, back_source, ids_of, fences_of, aside_of, rest_at, room_of, SourcesWithin}
 use Rattle.texml_input.proofs.Sources.{aside_put, ids_put, fences_put, room_put, within_put}
-use Rattle.texml_input.proofs.Standing.{rest_tokens, rest_back, within_back}
-use Rattle.texml_expand.specs.declared.stop.Stop.{Stop}
+use Rattle.texml_input.proofs.Standing.{rest_tokens, within_back}
 use Rattle.texml_expand.specs.State.{State}
 use Rattle.texml_expand.specs.Expand.{put, back, finished}
 use Rattle.texml_expand.specs.Held.{Held, state_of, Sound, Kept, SameFiles, Puts}

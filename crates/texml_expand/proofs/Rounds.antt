@@ -1,5 +1,5 @@
 -- Fetching and expanding, step by step.
-use Rattle.std.proofs.Common.{◌≡◌, ◌∙◌, ◌+◌, ◌-◌, ◌++◌, map, length, ◌≤◌, ◌<◌, ℕ, Bool, List, Option, Some, None, Result, Ok, Err, sym, ap, subst, arith}
+use Rattle.std.proofs.Common.{◌≡◌, ◌+◌, ◌-◌, ◌++◌, map, length, ◌≤◌, ◌<◌, ℕ, Bool, List, Option, Some, None, Result, Ok, Err, sym, subst, arith}
 use Rattle.std.specs.Result.{OnOk}
 use Rattle.texml_token.specs.Token.{Token}
 use Rattle.texml_token.specs.declared.tokens.Token.{Token as TokenCode}
@@ -9,7 +9,6 @@ use Rattle.texml_expand.specs.declared.stop.Stop.{Stop}
 use Rattle.texml_base.specs.Outside.{Shelf}
 use Rattle.texml_input.specs.Held.{Plain}
 use Rattle.texml_input.specs.Next.{Taken}
-use Rattle.texml_expand.specs.State.{State, nothing, Done}
 use Rattle.texml_expand.specs.declared.variables.Index.{Index}
 use Rattle.texml_expand.specs.Calls.{Expandable, Gift}
 use Rattle.texml_expand.specs.declared.engine.expanding.Gift.{Gift as GiftCode}

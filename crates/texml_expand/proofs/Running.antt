@@ -1,5 +1,5 @@
 -- What calls leave behind, one after the other.
-use Rattle.std.proofs.Common.{◌≡◌, ◌+◌, ◌≤◌, ◌<◌, ℕ, IsTrue, List, Option, None, Some, Result, Ok, Err, refl, sym, ap, ◌∙◌, subst, arith, inl, inr, eq-or-lt_of_le}
+use Rattle.std.proofs.Common.{◌≡◌, ◌+◌, ◌≤◌, ℕ, IsTrue, List, None, Some, Result, Ok, Err, refl, sym, ap, ◌∙◌, subst, arith, inl, inr, eq-or-lt_of_le}
 use Rattle.std.specs.Result.{OnOk}
 use Rattle.texml_base.specs.Outside.{Shelf}
 use Rattle.texml_input.specs.Held.{ids_of, fences_of, AreHeld}
@@ -8,8 +8,8 @@ use Rattle.texml_expand.specs.declared.stop.Stop.{Stop}
 use Rattle.texml_expand.specs.declared.stop.Stop.TheVariants as stop
 use Rattle.texml_expand.specs.State.{Reading}
 use Rattle.texml_expand.specs.Expand.{ByDepth}
-use Rattle.texml_expand.specs.Contract.{Outside, outside, files_at, Stops, IsFaultAt, stop_after}
-use Rattle.texml_expand.specs.Held.{Held, place_of, Sound, Kept, Progress, IsAtLimit, Owns, Holding, SameFiles, ok_at, held_room, Shrinks, Begun, Puts}
+use Rattle.texml_expand.specs.Contract.{Outside, outside, files_at, IsFaultAt, stop_after}
+use Rattle.texml_expand.specs.Held.{Held, place_of, Sound, Kept, Progress, IsAtLimit, Owns, Holding, SameFiles, ok_at, Shrinks, Begun, Puts}
 use Rattle.texml_expand.specs.Doing.{Does, Gets, Runs}
 use Rattle.texml_expand.proofs.Meeting.{NothingFails, stops_untold, stops_then, stops_same, stops_as}
 use Rattle.texml_expand.proofs.Fronts.{kept_then, kept_itself}

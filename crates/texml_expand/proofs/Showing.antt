@@ -1,5 +1,5 @@
 -- What \the gives, step by step.
-use Rattle.std.proofs.Common.{◌≡◌, ℕ, false, [], Option, None, Some, Result, Ok, Err, List, refl}
+use Rattle.std.proofs.Common.{◌≡◌, false, [], Option, None, Some, Result, Ok, Err, List, refl}
 use Rattle.texml_token.specs.Token.{Token}
 use Rattle.texml_token.specs.declared.fault_code.TheConstants.{FILE_ENDED}
 use Rattle.texml_scope.specs.Texts.{Meaning}

@@ -4,7 +4,6 @@ use Rattle.std.specs.Option.{option_map}
 use Rattle.texml_token.specs.Token.{Token}
 use Rattle.texml_token.specs.Numbers.{Table}
 use Rattle.texml_token.specs.declared.fault_code.TheConstants.{INVALID_CHAR, NOT_UTF8}
-use Rattle.texml_scope.specs.Texts.{World}
 use Rattle.texml_input.specs.Rest.{Item, Place}
 use Rattle.texml_input.specs.Next.{Taken, Given, next}
 use Rattle.texml_input.specs.Answers.{given_at, IsNext}

@@ -1,5 +1,5 @@
 -- What is read of tokens is what a grammar gives, so it lies within what the grammar gives.
-use Rattle.std.proofs.Common.{◌≡◌, subst, Result, Ok, Err}
+use Rattle.std.proofs.Common.{subst, Result, Ok, Err}
 use Rattle.std.specs.Result.{IfOk}
 use Rattle.texml_scan.specs.Grammar.{Read, Wants, Gives, Fails, Text, Verdict, Wanting, Decided, Faulty, verdict}
 use Rattle.texml_scan.proofs.Bounds.{OnGiven, Giving}

@@ -25,7 +25,11 @@ finished items s = record s { rest = items ++ s.rest; nesting = s.nesting - 1 }
 abbrev pub record_of : Token → List Token → Record
 record_of t list = record { token = spelling t; put = encode_utf8_all (shown_text list); file = [] }
 
+-- so it ends: these items stand before the rest, and these tokens are told
+abbrev pub finish_with : List (Item Token) → List Token → Token → Reading (Unit {0})
+finish_with items told t = do
+  change (finished items)
+  tell (record_of t told)
+
 abbrev pub finish : Token → Gift → Reading (Unit {0})
-finish t gift = do
-  change (finished (items_of gift))
-  tell (record_of t (tokens_of gift))
+finish t gift = finish_with (items_of gift) (tokens_of gift) t

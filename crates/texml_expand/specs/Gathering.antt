@@ -11,7 +11,7 @@ use Rattle.texml_expand.specs.declared.feeding.Verdict.TheVariants.{TooShort, Yi
 use Rattle.texml_expand.specs.declared.gathering.Gathering.TheVariants.{Name, Relation, Group}
 use Rattle.texml_input.specs.Rest.{Tok}
 use Rattle.texml_input.specs.Next.{Taken}
-use Rattle.texml_expand.specs.State.{Reading, ◌>>=◌, ◌>>◌, give, fail, change, tell}
+use Rattle.texml_expand.specs.State.{Reading, ◌>>=◌, ◌>>◌, give, fail}
 use Rattle.texml_expand.specs.Take.{means}
 use Rattle.texml_expand.specs.Arguments.{is_space, is_sign}
 use Rattle.texml_expand.specs.Braces.{absorbed}
@@ -19,7 +19,7 @@ use Rattle.texml_expand.specs.Variables.{Internal, Number, Dimension, Glue, Toke
 use Rattle.texml_expand.specs.Calls.{Expandable, The, Gathering, Calls}
 use Rattle.texml_expand.specs.Front.{Front, Nothing, Plain, Expands, front}
 use Rattle.texml_expand.specs.Quantities.{counts_as, next_internal, shown}
-use Rattle.texml_expand.specs.Begin.{begin, finished, record_of}
+use Rattle.texml_expand.specs.Begin.{begin, finish_with}
 
 -- What one more token decides behind those that were gathered
 
@@ -102,8 +102,7 @@ returned q = shown q
 
 abbrev pub copied : Token → Internal → Reading (List Token)
 copied t q = do
-  change (finished (map Tok (returned q)))
-  tell (record_of t (shown q))
+  finish_with (map Tok (returned q)) (shown q) t
   give (kept_of q)
 
 -- an expansion of \the, of whose tokens those of a list are taken as they are

@@ -10,6 +10,9 @@ ghost use Rattle.texml_expand.specs.declared.feeding.Verdict.TheVariants.{TooSho
 ghost use Rattle.texml_expand.specs.Feeding.{FeedsTold, FedBy};
 ghost use Rattle.texml_expand.specs.Least.{inner_token as spec_inner_token};
 ghost use Rattle.texml_expand.specs.Absorb.{absorb as spec_absorb};
+ghost use Rattle.texml_expand.specs.Least.{by_least};
+ghost use Rattle.texml_expand.specs.Braces.{absorbed};
+ghost use Rattle.texml_expand.specs.Hearing.{hears, hears_part, FollowsTold};
 ghost use Rattle.texml_expand.specs.Arguments.{fault_number, read_by, is_sign as spec_is_sign, sign_or_back as spec_sign_or_back, sign as spec_sign, optional as spec_optional};
 ghost use Rattle.texml_expand.specs.Arguments.{means_space as spec_means_space, is_space as spec_is_space, behind_spaces as spec_behind_spaces, first_argument as spec_first_argument};
 ghost use Rattle.texml_expand.specs.Arguments.{macro_arguments as spec_macro_arguments, called as spec_called, read_argument as spec_read_argument, read_optional as spec_read_optional};
@@ -22,6 +25,7 @@ ghost use Rattle.texml_expand.specs.Doing.{Gets, Runs};
 use super::Engine;
 use crate::call::{CallArgs, fill};
 use crate::feeding::{Feeder, Verdict};
+use crate::gathering::Gathering;
 use crate::group::Group;
 use crate::stop::Stop;
 use std::alloc::AllocError;
@@ -38,33 +42,40 @@ const OPEN_BRACKET: u32 = 91;
 const CLOSE_BRACKET: u32 = 93;
 
 impl Engine {
-    /// Takes the tokens behind a brace that begins a group, unexpanded, up to the brace that ends it, and answers those before
-    /// that. It tells nobody (The TeXbook, chapter 20).
+    /// Takes the tokens behind a brace that begins a group, up to the brace that ends it, and answers those before that: as they
+    /// stand, or expanded. Where they are expanded, what `\the` gives of a list of tokens is taken as it is, with each parameter
+    /// character twice, and each completed expansion is told to `tell`, where that wants records (The TeXbook, chapter 20).
     ///
     /// # Errors
     ///
-    /// `Tex` with fault 4 where a text ends inside the group, and with fault 15 where an invalid character stands in it.
-    /// `NoMemory` where memory was refused, and the stop that is kept.
+    /// `Tex` with fault 4 where a text ends inside the group, and with fault 15 where an invalid character stands in it; where
+    /// tokens are expanded, those of `fetch`. `ReadFailed` only where the count of faults of `files` rose in this call, `NoMemory`
+    /// where memory was refused, and the stop that is kept.
     pub fn absorb<F: Files, T: Teller>(
         &mut self,
         files: &mut F,
         tell: &mut T,
+        expanding: bool,
     ) -> Result<Tokens, Stop>
         requires sound { self.old.stop ≡ None → Sound self.old }
         requires owns { Owns (F.shelf files.old) self.old }
-        ensures absorbs { self.old.stop ≡ None → Reads (F.shelf files.old) (spec_absorb (state_of (F.shelf files.old) self.old)) (ok_at (tokens_at self.new.names) result) (state_of (F.shelf files.new) self.new) }
+        ensures follows { self.old.stop ≡ None → FollowsTold (hears T.wanting T.heard) (hears_part T.wanting T.part) (F.shelf files.old) (λ n. spec_absorb expanding n (state_of (F.shelf files.old) self.old))
+            (ok_at (tokens_at self.new.names) result) (state_of (F.shelf files.new) self.new) tell.old tell.new }
         ensures stops { self.old.stop ≡ None → Stops result (outside (F.shelf files.old) (F.faults files.old) (T.faults tell.old) (T.loan tell.old)) (outside (F.shelf files.new) (F.faults files.new) (T.faults tell.new) (T.loan tell.new)) self.new.stop }
         ensures lower { self.old.stop ≡ None → IfOk result (λ list. Shrinks (length list + 1) (F.shelf files.old) self.old (F.shelf files.new) self.new) }
         ensures progress { Progress self.old self.new }
         ensures limit { self.old.stop ≡ None → IsAtLimit result self.new }
         ensures keeps { self.old.stop ≡ None → OnOk result (Kept self.old self.new) }
         ensures within { self.old.stop ≡ None → IfOk result (TokensWithin (length self.new.names)) }
-        ensures stays { IfSome self.old.stop (λ stop. AnswersKept stop result × (self.new ≡ self.old) × (files.new ≡ files.old)) }
+        ensures stays { IfSome self.old.stop (λ stop. AnswersKept stop result × (self.new ≡ self.old) × (files.new ≡ files.old) × (tell.new ≡ tell.old)) }
         ensures holds { Holding (F.shelf files.old) (F.shelf files.new) self.old self.new }
-        ensures tell { tell.new ≡ tell.old }
     {
         self.running()?;
-        self.absorb_group(files)
+        if expanding {
+            self.gather(files, tell, Gathering::Group, 0)
+        } else {
+            self.absorb_group(files)
+        }
     }
 
     /// Takes an argument, unexpanded: a token, or the tokens of a group in braces, without these; space tokens before it go.
@@ -453,7 +464,7 @@ impl Engine {
         requires running { self.old.stop ≡ None }
         requires sound { Sound self.old }
         requires owns { Owns (F.shelf files.old) self.old }
-        ensures gets { Gets spec_absorb (ok_at (tokens_at self.new.names) result) self.old self.new (files_at (F.shelf files.old) (F.faults files.old)) (files_at (F.shelf files.new) (F.faults files.new)) }
+        ensures gets { Gets (by_least absorbed) (ok_at (tokens_at self.new.names) result) self.old self.new (files_at (F.shelf files.old) (F.faults files.old)) (files_at (F.shelf files.new) (F.faults files.new)) }
         ensures lower { IfOk result (λ list. Shrinks (length list + 1) (F.shelf files.old) self.old (F.shelf files.new) self.new) }
         ensures within { IfOk result (TokensWithin (length self.new.names)) }
     {

@@ -11,9 +11,11 @@ ghost use Rattle.texml_input.specs.Next.{Taken};
 ghost use Rattle.texml_expand.specs.Take.{meaning_of};
 ghost use Rattle.texml_expand.specs.State.{tell as spec_tell};
 ghost use Rattle.texml_expand.specs.Calls.{expandable, Puts, Freezes};
+ghost use Rattle.texml_input.specs.Rest.{Tok};
+ghost use Rattle.texml_expand.specs.Begin.{finish_with};
 ghost use Rattle.texml_expand.specs.Expand.{front_taken, begin, finish, record_of, level};
 ghost use Rattle.texml_expand.specs.Expand.{front as spec_front, given as spec_given, fetch as spec_fetch, look as spec_look, expand_once as spec_expand_once, read_int as spec_read_int, read_dimen as spec_read_dimen, read_index as spec_read_index, decimal as spec_decimal, roman_numeral as spec_roman};
-ghost use Rattle.texml_expand.specs.Quantities.{next_looked, as_it_counts, int_text, dimension_text};
+ghost use Rattle.texml_expand.specs.Quantities.{next_looked, as_it_counts, counts_as as spec_counts_as, int_text, dimension_text};
 ghost use Rattle.texml_expand.specs.Variables.{variable_at as spec_variable_at};
 ghost use Rattle.texml_expand.specs.Quantities.{next_internal as spec_next_internal, the as spec_the, internal as spec_internal, internal_of, look as look_in};
 ghost use Rattle.texml_expand.specs.Fronts.{gift_at, GiftWithin, front_at, front_count, FrontWithin, is_undefined as means_nothing, expandable_at, ExpandableWithin, builtin_in, expandable_in, frozen_in, looked_at as looked_at_by, LookedWithin};
@@ -21,7 +23,7 @@ ghost use Rattle.texml_expand.specs.VariableCodes.{internal_at, InternalWithin, 
 ghost use Rattle.texml_expand.specs.declared.engine.expanding.TheConstants.{DEEPEST};
 ghost use Rattle.texml_expand.specs.Machine.{machine_rest};
 ghost use Rattle.texml_expand.specs.Scanning.{Turned, MayGive};
-ghost use Rattle.texml_expand.specs.Held.{state_of, Sound, Kept, Progress, IsAtLimit, ok_at, read_at, ReadWithin, Owns, Holding, SameFiles, Shrinks, Begun};
+ghost use Rattle.texml_expand.specs.Held.{state_of, world_in, Sound, Kept, Progress, IsAtLimit, ok_at, read_at, ReadWithin, Owns, Holding, SameFiles, Shrinks, Begun};
 ghost use Rattle.texml_expand.specs.Contract.{Local, AnswersKept, Stops, outside, files_at, stop_after};
 ghost use Rattle.texml_expand.specs.Hearing.{hears, hears_part, Meets, FollowsTold};
 ghost use Rattle.texml_expand.specs.Doing.{Does, Gets};
@@ -170,12 +172,12 @@ impl Engine {
     ///
     /// # Errors
     ///
-    /// `Tex` with fault 25 where 400 expansions are open; and of its arguments with fault 5 at a token before the first that
-    /// doesn't match the parameter text, with fault 2 at a brace that ends a group which hasn't begun, with fault 3 at a
-    /// `\par` that may not stand there, with fault 4 where a text ends before the last is read, and with fault 15 where an
-    /// invalid character stands among them. `Limit` where one expansion too many would begin. `TellFailed`
-    /// only where the count of faults of `tell` rose in this call, `NoMemory` where memory was refused, and the stop that is
-    /// kept.
+    /// `Tex` with fault 25 where 400 expansions are open, or conditionals too deep in skipped text; of arguments with fault 5
+    /// at a token that doesn't match the parameter text, 2 at a brace that ends a group which hasn't begun, and 3 at a `\par`
+    /// that may not stand there; 4 where a text ends too early, 15 at an invalid character, 12 at a word of a conditional that
+    /// isn't open, 13 where something else stands before `\endcsname`, and those of `read_int` and `read_dimen`. `Limit` where
+    /// one expansion too many would begin. `ReadFailed` and `TellFailed` only where the count of faults of `files` or `tell`
+    /// rose in this call, `NoMemory` where memory was refused, and the stop that is kept.
     pub fn expand_once<F: Files, T: Teller>(
         &mut self,
         files: &mut F,
@@ -214,6 +216,7 @@ impl Engine {
         requires owns { Owns (F.shelf files.old) self.old }
         ensures gets { Gets spec_front (ok_at (front_at self.new.names) result) self.old self.new (files_at (F.shelf files.old) (F.faults files.old)) (files_at (F.shelf files.new) (F.faults files.new)) }
         ensures lower { IfOk result (λ f. Shrinks (front_count f) (F.shelf files.old) self.old (F.shelf files.new) self.new) }
+        ensures begun { OnOk result (self.new.begun ≡ self.old.begun) }
         ensures within { IfOk result (FrontWithin (length self.new.names)) }
     {
         match self.take_front(files)? {
@@ -363,10 +366,35 @@ impl Engine {
         ensures limit { IsAtLimit result self.new }
         ensures files { SameFiles self.old self.new }
     {
-        match self.input.push_tokens(list) {
+        self.finish_with(tell, token, list, list)
+    }
+
+    // Ends an expansion: the first tokens are put before what is to be read, and the others are told.
+    pub(super) fn finish_with<T: Teller>(
+        &mut self,
+        tell: &mut T,
+        token: Token,
+        back: &Tokens,
+        told: &Tokens,
+    ) -> Result<(), Stop>
+        requires running { self.old.stop ≡ None }
+        requires nested { 1 ≤ self.old.nesting }
+        requires token { TokenWithin (length self.old.names) token }
+        requires back { TokensWithin (length self.old.names) back.now }
+        requires told { TokensWithin (length self.old.names) told.now }
+        ensures finishes { (shelf : Shelf) → Meets (hears T.wanting T.heard) (hears_part T.wanting T.part)
+            (finish_with (map Tok (tokens_at self.old.names back.now)) (tokens_at self.old.names told.now) (token_at self.old.names token) (state_of shelf self.old)) result (state_of shelf self.new) tell.old tell.new }
+        ensures stops { (shelf : Shelf) (faults : ℕ) → Stops result (outside shelf faults (T.faults tell.old) (T.loan tell.old)) (outside shelf faults (T.faults tell.new) (T.loan tell.new)) self.new.stop }
+        ensures kept { self.new.stop ≡ stop_after result }
+        ensures is { OnOk result (self.new ≡ record self.old { input = record self.old.input { sources = map Plain back.now ++ self.old.input.sources }; nesting = self.old.nesting - 1 }) }
+        ensures progress { Progress self.old self.new }
+        ensures limit { IsAtLimit result self.new }
+        ensures files { SameFiles self.old self.new }
+    {
+        match self.input.push_tokens(back) {
             Ok(()) => {
                 self.nesting -= 1;
-                self.tell_of(tell, token, list)
+                self.tell_of(tell, token, told)
             }
             Err(_) => Err(self.no_memory()),
         }

@@ -5,9 +5,9 @@ ghost use Rattle.texml_base.specs.Outside.{Shelf};
 ghost use Rattle.texml_token.specs.Numbers.{Table, token_at, tokens_at, TokenWithin, TokensWithin};
 ghost use Rattle.texml_scope.specs.Texts.{World};
 ghost use Rattle.texml_scope.specs.Numbers.{meaning_at};
-ghost use Rattle.texml_expand.specs.Gathering.{copies as spec_copies, copied as spec_copied, kept_of, returned as spec_returned, ends_name as spec_ends_name, is_relation as spec_is_relation, judged as spec_judged, of_relation as spec_of_relation};
+ghost use Rattle.texml_expand.specs.Gathering.{doubled as doubled_list, copies as spec_copies, copied as spec_copied, kept_of, returned as spec_returned, ends_name as spec_ends_name, is_relation as spec_is_relation, judged as spec_judged, of_relation as spec_of_relation};
 ghost use Rattle.texml_expand.specs.Quantities.{counts_as as spec_counts_as, shown as spec_shown};
-ghost use Rattle.texml_expand.specs.Fronts.{at_once, expandable_at, ExpandableWithin, verdict_at, VerdictWithin, PartsWithin};
+ghost use Rattle.texml_expand.specs.Fronts.{gathered_count, at_once, expandable_at, ExpandableWithin, verdict_at, VerdictWithin, PartsWithin};
 ghost use Rattle.texml_expand.specs.VariableCodes.{internal_at, InternalWithin};
 ghost use Rattle.texml_expand.specs.Expand.{level};
 ghost use Rattle.texml_expand.specs.Held.{state_of, world_in, Sound, Kept, Progress, IsAtLimit, ok_at, read_at, Owns, SameFiles, Shrinks, Begun};
@@ -18,10 +18,10 @@ ghost use Rattle.texml_expand.specs.Doing.{Does};
 use super::Engine;
 use super::arguments::is_sign;
 use super::expanding::{Expandable, Front};
+use super::quantities::shown;
 use crate::feeding::Verdict;
 use crate::gathering::{Gathered, Gathering, doubled};
 use crate::internal::Internal;
-use crate::printed::{printed_dimension, printed_glue, printed_number};
 use crate::stop::Stop;
 use std::alloc::{AllocError, Global};
 use texml_base::Files;
@@ -51,32 +51,36 @@ impl Engine {
         requires owns { Owns (F.shelf files.old) self.old }
         ensures does { Does (hears T.wanting T.heard) (hears_part T.wanting T.part)
             (λ n. (level n).gather gathering []) (ok_at (tokens_at self.new.names) result) self.old self.new (outside (F.shelf files.old) (F.faults files.old) (T.faults tell.old) (T.loan tell.old)) (outside (F.shelf files.new) (F.faults files.new) (T.faults tell.new) (T.loan tell.new)) tell.old tell.new }
-        ensures lower { OnOk result (Shrinks 0 (F.shelf files.old) self.old (F.shelf files.new) self.new) }
+        ensures lower { IfOk result (λ list. Shrinks (gathered_count gathering list) (F.shelf files.old) self.old (F.shelf files.new) self.new) }
         ensures within { IfOk result (TokensWithin (length self.new.names)) }
     {
         let mut gathered = Gathered::new(self.alloc);
         'rounds: loop {
-            let begun = self.begun();
             'tokens: loop {
-                let more = match self.front(files)? {
+                match self.front(files)? {
                     Front::Nothing => return Err(self.bare_fault(fault_code::FILE_ENDED)),
-                    Front::Plain(read) => match self.judged(gathering, &gathered, read) {
-                        Ok(Verdict::TooShort) => gathered.push(read.token),
-                        Ok(Verdict::Yields(list)) => return Ok(list),
-                        Ok(Verdict::Refuses(code)) => return Err(self.bare_fault(code)),
-                        Err(_) => return Err(self.no_memory()),
-                    },
+                    Front::Plain(read) => {
+                        let verdict = match self.judged(gathering, &gathered, read) {
+                            Ok(verdict) => verdict,
+                            Err(_) => return Err(self.no_memory()),
+                        };
+                        match verdict {
+                            Verdict::TooShort => match gathered.push(read.token) {
+                                Ok(()) => {}
+                                Err(_) => return Err(self.no_memory()),
+                            },
+                            Verdict::Yields(list) => return Ok(list),
+                            Verdict::Refuses(code) => return Err(self.bare_fault(code)),
+                        }
+                    }
                     Front::Expands(token, found) => {
                         let list = self.at_once(files, tell, gathering, token, found, deep)?;
-                        gathered.extend(&list)
+                        match gathered.extend(&list) {
+                            Ok(()) => {}
+                            Err(_) => return Err(self.no_memory()),
+                        }
+                        break;
                     }
-                };
-                match more {
-                    Ok(()) => {}
-                    Err(_) => return Err(self.no_memory()),
-                }
-                if self.begun() != begun {
-                    break;
                 }
             }
         }
@@ -162,12 +166,7 @@ impl Engine {
             Ok(parts) => parts,
             Err(_) => return Err(self.no_memory()),
         };
-        match self.input.push_tokens(&parts.back) {
-            Ok(()) => {}
-            Err(_) => return Err(self.no_memory()),
-        }
-        self.nesting -= 1;
-        self.tell_of(tell, token, &parts.told)?;
+        self.finish_with(tell, token, &parts.back, &parts.told)?;
         Ok(parts.kept)
     }
 
@@ -244,18 +243,24 @@ fn parts_of(alloc: Global, internal: Internal) -> Result<Parts, AllocError>
     ensures within { IfOk result (λ parts. (count : ℕ) → InternalWithin count internal → PartsWithin count parts) }
 {
     match internal {
-        Internal::Tokens(list) => {
-            let kept = doubled(alloc, list.as_slice())?;
-            Ok(Parts {
-                back: Tokens::new(alloc),
-                told: list,
-                kept,
-            })
-        }
-        Internal::Number(value) => returned(alloc, printed_number(alloc, value)?),
-        Internal::Dimension(value) => returned(alloc, printed_dimension(alloc, value)?),
-        Internal::Glue(value) => returned(alloc, printed_glue(alloc, value)?),
+        Internal::Tokens(list) => taken(alloc, list),
+        quantity => returned(alloc, shown(alloc, quantity)?),
     }
+}
+
+// These all are taken.
+fn taken(alloc: Global, list: Tokens) -> Result<Parts, AllocError>
+    ensures back { IfOk result (λ parts. parts.back ≡ []) }
+    ensures told { IfOk result (λ parts. parts.told ≡ list) }
+    ensures kept { IfOk result (λ parts. (texts : Table) → tokens_at texts parts.kept ≡ doubled_list (tokens_at texts list)) }
+    ensures within { IfOk result (λ parts. (count : ℕ) → TokensWithin count list → PartsWithin count parts) }
+{
+    let kept = doubled(alloc, list.as_slice())?;
+    Ok(Parts {
+        back: Tokens::new(alloc),
+        told: list,
+        kept,
+    })
 }
 
 // These all go back.

@@ -7,13 +7,14 @@ ghost use Rattle.texml_token.specs.Spelling.{spelled as spec_spelled};
 ghost use Rattle.texml_scope.specs.Values.{meaning_in};
 ghost use Rattle.texml_scope.specs.Shown.{world_of};
 ghost use Rattle.texml_scope.specs.Numbers.{WorldCovered};
+ghost use Rattle.texml_scope.specs.declared.values.KeyOf.TheVariants.{Name as NameKey};
 ghost use Rattle.texml_expand.specs.State.{give};
 ghost use Rattle.texml_expand.specs.Calls.{Puts as spec_Puts};
 ghost use Rattle.texml_expand.specs.Printed.{printed_tokens};
 ghost use Rattle.texml_expand.specs.Expansion.{one_token as spec_one_token, escape_of, spelled_now, string as spec_string, job as spec_job, no_expand as spec_no_expand, expand_after as spec_expand_after};
 ghost use Rattle.texml_expand.specs.Names.{text_of as spec_text_of, is_undefined as spec_is_undefined, with_name, name_of, cs_name as spec_cs_name};
 ghost use Rattle.texml_expand.specs.Expand.{level};
-ghost use Rattle.texml_expand.specs.Fronts.{gift_at, GiftWithin};
+ghost use Rattle.texml_expand.specs.Fronts.{gift_at, GiftWithin, lacks_meaning};
 ghost use Rattle.texml_expand.specs.Held.{world_in, Sound, Kept, Progress, IsAtLimit, ok_at, Owns, SameFiles, Shrinks, Puts};
 ghost use Rattle.texml_expand.specs.Contract.{Local, outside, files_at, stop_after};
 ghost use Rattle.texml_expand.specs.Hearing.{hears, hears_part};
@@ -84,6 +85,7 @@ impl Engine {
 
     // The number of the escape character.
     fn escape(&self) -> i32
+        requires { Sound self.now }
         ensures { result ≡ escape_of (world_in self.now) }
     {
         self.scope.number(&Key::EscapeChar).unwrap_or(-1)
@@ -230,8 +232,7 @@ impl Engine {
 
     // A name without a meaning means `\relax` from now on, in the innermost group.
     fn relax(&mut self, name: Name) -> Result<(), AllocError>
-        requires numbered { Numbered self.old.names }
-        requires covered { WorldCovered (length self.old.names) (world_of self.old.scope) }
+        requires sound { Sound self.old }
         requires given { 1 ≤ name.0 }
         requires within { name.0 ≤ length self.old.names }
         ensures same { self.new ≡ record self.old { scope = self.new.scope; writes = self.new.writes } }
@@ -240,23 +241,40 @@ impl Engine {
         ensures covered { OnOk result (WorldCovered (length self.new.names) (world_of self.new.scope)) }
         ensures groups { OnOk result ((world_of self.new.scope).groups ≡ (world_of self.old.scope).groups) }
     {
-        let key = Key::Name(name);
-        if !is_undefined(&self.scope.get(&key)?) {
+        if !self.lacks_meaning(name)? {
             return Ok(());
         }
         let mut steps = Steps::new();
-        self.scope
-            .set(key, Value::Means(Meaning::Builtin(RELAX)), &mut steps)?;
+        self.scope.set(
+            Key::Name(name),
+            Value::Means(Meaning::Builtin(RELAX)),
+            &mut steps,
+        )?;
         self.wrote(&steps);
         Ok(())
     }
+
+    // Whether a name has no meaning.
+    fn lacks_meaning(&self, name: Name) -> Result<bool, AllocError>
+        requires sound { Sound self.now }
+        requires given { 1 ≤ name.0 }
+        requires within { name.0 ≤ length self.now.names }
+        ensures { IfOk result (λ lacks. lacks ≡ spec_is_undefined (meaning_in ((world_in self.now).top (NameKey (text_at self.now.names name.0))))) }
+    {
+        let value = self.value(&Key::Name(name))?;
+        Ok(is_undefined(&value))
+    }
 }
 
-// The value of a name without a meaning.
+// Whether it is the value of a name without a meaning.
 fn is_undefined(value: &Value) -> bool
-    ensures { result ≡ spec_is_undefined (meaning_in value.now) }
+    ensures { result ≡ lacks_meaning value.now }
 {
-    matches!(value, Value::Means(Meaning::Undefined))
+    match value {
+        Value::Means(Meaning::Undefined) => true,
+        Value::Means(_) => false,
+        _ => true,
+    }
 }
 
 // A token as it is spelled with this escape character.
@@ -269,7 +287,10 @@ fn spelled(alloc: Global, token: Token, escape: i32, names: &Names) -> Result<To
     let mut text = Bytes::new(alloc);
     spell(token, escape, names, &mut text)?;
     match str::from_utf8(text.as_slice()) {
-        Ok(text) => printed_text(alloc, &chars_of(alloc, text)?),
+        Ok(text) => {
+            let text = chars_of(alloc, text)?;
+            printed_text(alloc, &text)
+        }
         Err(_) => unreachable!(),
     }
 }

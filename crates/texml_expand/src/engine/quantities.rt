@@ -418,7 +418,7 @@ fn internal_in(alloc: Global, key: Key, value: KeyValue) -> Internal
 }
 
 // A quantity as `\the` writes it, or the tokens themselves.
-fn shown(alloc: Global, internal: Internal) -> Result<Tokens, AllocError>
+pub(super) fn shown(alloc: Global, internal: Internal) -> Result<Tokens, AllocError>
     ensures is { IfOk result (λ list. (texts : Table) → tokens_at texts list ≡ spec_shown (internal_at texts internal)) }
     ensures within { IfOk result (λ list. (count : ℕ) → InternalWithin count internal → TokensWithin count list) }
 {

@@ -3,7 +3,7 @@ use Rattle.std.specs.Fmt.{signed_decimal}
 use Rattle.std.proofs.lemmas.Int.{to_z-of_z}
 use Rattle.std.proofs.Common.{◌==◌, to_z, of_z}
 use Rattle.texml_expand.specs.Contract.{outside, Local}
-use Rattle.texml_token.specs.Numbers.{Extends, token_at, tokens_at}
+use Rattle.texml_token.specs.Numbers.{Extends, token_at, tokens_at, TokenWithin}
 use Rattle.texml_token.proofs.Translation.{token_kept}
 use Rattle.texml_expand.specs.Held.{Held, state_of, ok_at, read_at}
 use Rattle.texml_expand.specs.Fronts.{macro_at, expandable_at, looked_at, ExpandableWithin}
@@ -53,9 +53,24 @@ use Rattle.texml_expand.proofs.Levels.{lawful_decimal, lawful_roman_numeral}
 use Rattle.texml_expand.proofs.Looking.{lawful_the}
 use Rattle.texml_expand.proofs.Giving.{lawful_string, lawful_job, lawful_no_expand}
 use Rattle.texml_expand.proofs.Branching.{lawful_two_faces, lawful_same_meanings, lawful_compared, lawful_number, lawful_open_test, lawful_chosen, lawful_part_end}
-use Rattle.texml_expand.proofs.Gifts.{puts_stops, puts_does, ended_begun}
+use Rattle.texml_expand.proofs.Copying.{copy_stops, copy_unread, copy_ends, copied_did}
+use Rattle.texml_expand.proofs.Gifts.{puts_stops, puts_does, ok_then, ended_begun}
 use Rattle.texml_expand.proofs.Testing.{face_stops, face_ends, face_out, face_does, faces_stop, faces_do, first_face_stops, dimension_stops, dimension_does, amount_as, relation_stops, relation_does, compared_first, compared_second, compared_third, compared_does, choice_stops, choice_does, tested_as, unopened, untested, unchosen, conditional_does}
 use Rattle.texml_expand.proofs.Worth.{dimen_same}
+use Rattle.texml_token.specs.declared.fault_code.TheConstants.{FILE_ENDED}
+use Rattle.texml_token.proofs.Translation.{token_more}
+use Rattle.texml_expand.specs.Calls.{Puts}
+use Rattle.texml_expand.specs.Front as fronts
+use Rattle.texml_expand.specs.Expansion.{one_token, behind_first}
+use Rattle.texml_expand.specs.Names.{name_of}
+use Rattle.texml_expand.specs.Fronts.{gift_at}
+use Rattle.texml_expand.proofs.Standing.{lawful_front}
+use Rattle.texml_expand.proofs.Giving.{lawful_one_token, lawful_behind_first, lawful_name_of}
+use Rattle.texml_expand.proofs.Running.{ok_puts}
+use Rattle.texml_expand.proofs.Behind.{after_stops, after_first, second_stops, second_is, behind_plain, behind_stops, behind_expands, name_stops, name_does}
+use Rattle.texml_expand.specs.Front.{Plain}
+use Rattle.texml_expand.specs.Gathering.{copies}
+use Rattle.texml_expand.proofs.Gathered.{gather_stops, gather_ends, gather_broken, gather_yields, gather_refuses, gathers_token, gathers_expansion, gather_unexpanded, gather_short, once_stops, once_expanded}
 use Rattle.texml_expand.proofs.engine.Engine.+expanding.Goals as goal
 
 pub expand-returns-clause-does : goal.expand-returns-clause-does
@@ -199,8 +214,8 @@ given-returns-in_err-list-in-Call-clause-does g t c =
     let h = given_as (hears T.wanting T.heard) (hears_part T.wanting T.part) tok tok _ (expandable_at mine.names c.args.found) _ _ _ _ _ _ _ refl (ap (expandable_at mine.names) c.in-Call.is) d in
     search (rules, h)
 
-pub given-returns-in-Call-clause-does : goal.given-returns-in-Call-clause-does
-given-returns-in-Call-clause-does g t c =
+pub given-returns-in_ok-list-in-Call-clause-does : goal.given-returns-in_ok-list-in-Call-clause-does
+given-returns-in_ok-list-in-Call-clause-does g t c =
     let T = g.T.Teller in
     let F = g.F.Files in
     let mine = c.args.self.now in
@@ -216,10 +231,10 @@ given-returns-in_err-list-in-Number-clause-does g t c =
     let tok = token_at mine.names c.args.token in
     let d = puts_stops (hears T.wanting T.heard) (hears_part T.wanting T.part) decimal lawful_decimal _ _ _ _ _ _ _ c.in_err-list-in-Number.ensures.does in
     let h = given_as (hears T.wanting T.heard) (hears_part T.wanting T.part) tok tok _ (expandable_at mine.names c.args.found) _ _ _ _ _ _ _ refl (ap (expandable_at mine.names) c.in-Number.is) d in
-    search (rules, h)
+    rw (passed_on c.from_residual-in_err-list-in-Number.result c.in_err-list-in-Number.field-0.0 c.from_residual-in_err-list-in-Number.ensures) h
 
-pub given-returns-in-Number-clause-does : goal.given-returns-in-Number-clause-does
-given-returns-in-Number-clause-does g t c =
+pub given-returns-in_ok-list-in-Number-clause-does : goal.given-returns-in_ok-list-in-Number-clause-does
+given-returns-in_ok-list-in-Number-clause-does g t c =
     let T = g.T.Teller in
     let F = g.F.Files in
     let mine = c.args.self.now in
@@ -235,10 +250,10 @@ given-returns-in_err-list-in-RomanNumeral-clause-does g t c =
     let tok = token_at mine.names c.args.token in
     let d = puts_stops (hears T.wanting T.heard) (hears_part T.wanting T.part) roman_numeral lawful_roman_numeral _ _ _ _ _ _ _ c.in_err-list-in-RomanNumeral.ensures.does in
     let h = given_as (hears T.wanting T.heard) (hears_part T.wanting T.part) tok tok _ (expandable_at mine.names c.args.found) _ _ _ _ _ _ _ refl (ap (expandable_at mine.names) c.in-RomanNumeral.is) d in
-    search (rules, h)
+    rw (passed_on c.from_residual-in_err-list-in-RomanNumeral.result c.in_err-list-in-RomanNumeral.field-0.0 c.from_residual-in_err-list-in-RomanNumeral.ensures) h
 
-pub given-returns-in-RomanNumeral-clause-does : goal.given-returns-in-RomanNumeral-clause-does
-given-returns-in-RomanNumeral-clause-does g t c =
+pub given-returns-in_ok-list-in-RomanNumeral-clause-does : goal.given-returns-in_ok-list-in-RomanNumeral-clause-does
+given-returns-in_ok-list-in-RomanNumeral-clause-does g t c =
     let T = g.T.Teller in
     let F = g.F.Files in
     let mine = c.args.self.now in
@@ -254,10 +269,10 @@ given-returns-in_err-list-in-The-clause-does g t c =
     let tok = token_at mine.names c.args.token in
     let d = puts_stops (hears T.wanting T.heard) (hears_part T.wanting T.part) the lawful_the _ _ _ _ _ _ _ c.in_err-list-in-The.ensures.does in
     let h = given_as (hears T.wanting T.heard) (hears_part T.wanting T.part) tok tok _ (expandable_at mine.names c.args.found) _ _ _ _ _ _ _ refl (ap (expandable_at mine.names) c.in-The.is) d in
-    search (rules, h)
+    rw (passed_on c.from_residual-in_err-list-in-The.result c.in_err-list-in-The.field-0.0 c.from_residual-in_err-list-in-The.ensures) h
 
-pub given-returns-in-The-clause-does : goal.given-returns-in-The-clause-does
-given-returns-in-The-clause-does g t c =
+pub given-returns-in_ok-list-in-The-clause-does : goal.given-returns-in_ok-list-in-The-clause-does
+given-returns-in_ok-list-in-The-clause-does g t c =
     let T = g.T.Teller in
     let F = g.F.Files in
     let mine = c.args.self.now in
@@ -275,8 +290,8 @@ given-returns-in_err-list-in-String-clause-does g t c =
     let h = given_as (hears T.wanting T.heard) (hears_part T.wanting T.part) tok tok _ (expandable_at mine.names c.args.found) _ _ _ _ _ _ _ refl (ap (expandable_at mine.names) c.in-String.is) d in
     search (rules, h)
 
-pub given-returns-in-String-clause-does : goal.given-returns-in-String-clause-does
-given-returns-in-String-clause-does g t c =
+pub given-returns-in_ok-list-in-String-clause-does : goal.given-returns-in_ok-list-in-String-clause-does
+given-returns-in_ok-list-in-String-clause-does g t c =
     let T = g.T.Teller in
     let F = g.F.Files in
     let mine = c.args.self.now in
@@ -294,13 +309,13 @@ given-returns-in_err-list-in-JobName-clause-does g t c =
     let h = given_as (hears T.wanting T.heard) (hears_part T.wanting T.part) tok tok _ (expandable_at mine.names c.args.found) _ _ _ _ _ _ _ refl (ap (expandable_at mine.names) c.in-JobName.is) d in
     search (rules, h)
 
-pub given-returns-in-JobName-clause-does : goal.given-returns-in-JobName-clause-does
-given-returns-in-JobName-clause-does g t c =
+pub given-returns-in_ok-list-in-JobName-clause-does : goal.given-returns-in_ok-list-in-JobName-clause-does
+given-returns-in_ok-list-in-JobName-clause-does g t c =
     let T = g.T.Teller in
     let F = g.F.Files in
     let mine = c.args.self.now in
     let tok = token_at mine.names c.args.token in
-    let d = puts_does (hears T.wanting T.heard) (hears_part T.wanting T.part) (λ c'. job) lawful_job _ _ _ _ _ _ _ (does_silent (hears T.wanting T.heard) (hears_part T.wanting T.part) (λ c'. job) lawful_job _ mine c.job.new.self (outside (F.shelf c.args.files.now) (F.faults c.args.files.now) (T.faults c.args.tell.now) (T.loan c.args.tell.now)) c.args.tell.now (c.in_ok-list-in-JobName.ensures.writes (F.shelf c.args.files.now)) c.in_ok-list-in-JobName.ensures.kept c.in_ok-list-in-JobName.ensures.limit c.in_ok-list-in-JobName.ensures.keeps c.in_ok-list-in-JobName.ensures.progress c.in_ok-list-in-JobName.ensures.files c.requires.owns) in
+    let d = puts_does (hears T.wanting T.heard) (hears_part T.wanting T.part) (λ c'. job) lawful_job _ _ _ _ _ _ _ (does_silent (hears T.wanting T.heard) (hears_part T.wanting T.part) (λ c'. job) lawful_job _ mine c.job.new.self (outside (F.shelf c.args.files.now) (F.faults c.args.files.now) (T.faults c.args.tell.now) (T.loan c.args.tell.now)) c.args.tell.now (by_new tokens_at job (Ok c.in_ok-list-in-JobName.list) mine c.job.new.self c.in_ok-list-in-JobName.ensures.writes c.in_ok-list-in-JobName.ensures.same (F.shelf c.args.files.now)) c.in_ok-list-in-JobName.ensures.kept c.in_ok-list-in-JobName.ensures.limit c.in_ok-list-in-JobName.ensures.keeps c.in_ok-list-in-JobName.ensures.progress c.in_ok-list-in-JobName.ensures.files c.requires.owns) in
     given_as (hears T.wanting T.heard) (hears_part T.wanting T.part) tok tok _ (expandable_at mine.names c.args.found) _ _ _ _ _ _ _ refl (ap (expandable_at mine.names) c.in-JobName.is) d
 
 pub given-returns-in-ExpandAfter-clause-does : goal.given-returns-in-ExpandAfter-clause-does
@@ -619,7 +634,7 @@ next_looked-returns-in-Some-clause-does g t c =
     let x = Some (read_at new.names c.in-Some.read) in
     let d = does_gets (hears T.wanting T.heard) (hears_part T.wanting T.part) (λ c. take) lawful_take (Ok x) c.args.self.now new _ _ _ _ (T.faults c.args.tell.now) (T.loan c.args.tell.now) c.args.tell.now (rw c.in-Some.is at e) in
     let h = does_then (hears T.wanting T.heard) (hears_part T.wanting T.part) (λ c. take) (λ o c. give (option_map as_itself o)) lawful_take (λ o. lawful_give (option_map as_itself o)) x _ _ _ _ _ _ _ _ _ _ d
-        (does_now (hears T.wanting T.heard) (hears_part T.wanting T.part) (option_map as_itself x) new _ c.args.tell.now e.keeps.sound e.stops.kept e.holds.owns) in
+    (does_now (hears T.wanting T.heard) (hears_part T.wanting T.part) (option_map as_itself x) new _ c.args.tell.now e.keeps.sound e.stops.kept e.holds.owns) in
     rw c.as_itself.ensures (looked_as (hears T.wanting T.heard) (hears_part T.wanting T.part) true c.args.raw _ _ _ _ _ _ _ c.if-raw.true h)
 
 pub next_looked-returns-in_err-read-2-clause-does : goal.next_looked-returns-in_err-read-2-clause-does
@@ -841,14 +856,13 @@ expand-given-requires g t c κs within =
     let kept = begun_kept mine mid b.is b.within c.requires.sound in
     let owns = owns_same (g.F.Files.shelf c.args.files.now) mine mid c.requires.owns b.files in
     let found = subst (λ (h : Held). ExpandableWithin (length h.names) c.args.found) (sym b.is) c.requires.found in
+    let token = subst (λ (h : Held). TokenWithin (length h.names) c.args.token) (sym b.is) c.requires.token in
     let nesting = ap (λ (h : Held). h.nesting) b.is in
     let deep = b.nested in
-    (omega (arith, c.decreases, nesting, deep), (within.0, (within.1, (b.kept, (kept.sound, (owns, found))))))
+    (omega (arith, c.decreases, nesting, deep), (within.0, (within.1, (b.kept, (kept.sound, (owns, (token, found)))))))
 
 pub the-returns-clause-lower : goal.the-returns-clause-lower
-the-returns-clause-lower g t c =
-    let first = rw c.in-Some.is at c.in_ok-looked.ensures.lower in
-    ok_same c.shown.result 0 _ _ _ c.internal.new.self c.shown.new.self (shrinks_then 1 0 0 _ _ _ _ c.next_looked.new.self _ first c.in_ok-internal.ensures.lower (omega arith)) c.shown.ensures.same
+the-returns-clause-lower g t c = ok_same c.shown.result 0 _ _ _ c.next_internal.new.self c.shown.new.self c.in_ok-internal.ensures.lower c.shown.ensures.same
 
 pub next_face-returns-in_err-read-clause-does : goal.next_face-returns-in_err-read-clause-does
 next_face-returns-in_err-read-clause-does g t c =
@@ -909,14 +923,15 @@ amount-returns-in_err-value-clause-does g t c =
     let F = g.F.Files in
     let d = dimension_stops (hears T.wanting T.heard) (hears_part T.wanting T.part) _ _ _ _ _ _ _ c.in_err-value.ensures.does in
     let h = amount_as (hears T.wanting T.heard) (hears_part T.wanting T.part) true c.args.dimension _ _ _ _ _ _ _ c.if-not-dimension.false d in
-    search (rules, h)
+    rw (passed_on c.from_residual.result c.in_err-value.field-0.0 c.from_residual.ensures) h
 
 pub amount-returns-clause-does : goal.amount-returns-clause-does
 amount-returns-clause-does g t c =
     let T = g.T.Teller in
     let F = g.F.Files in
     let d = dimension_does (hears T.wanting T.heard) (hears_part T.wanting T.part) c.in_ok-value.value _ _ _ _ _ _ c.in_ok-value.ensures.does in
-    amount_as (hears T.wanting T.heard) (hears_part T.wanting T.part) true c.args.dimension _ _ _ _ _ _ _ c.if-not-dimension.false d
+    let fits : FitsSigned w32 c.in_ok-value.value.0 = search rules in
+    rw (to_z-of_z w32 c.in_ok-value.value.0 fits) (amount_as (hears T.wanting T.heard) (hears_part T.wanting T.part) true c.args.dimension _ _ _ _ _ _ _ c.if-not-dimension.false d)
 
 pub relation-returns-in_err-list-clause-does : goal.relation-returns-in_err-list-clause-does
 relation-returns-in_err-list-clause-does g t c =
@@ -931,7 +946,7 @@ relation-returns-clause-does g t c =
     let F = g.F.Files in
     let new = c.gather.new.self in
     let d = relation_does (hears T.wanting T.heard) (hears_part T.wanting T.part) (tokens_at new.names c.in_ok-list.list) _ _ _ _ _ _ c.in_ok-list.ensures.does in
-    rw (c.first_code.ensures new.names) d
+    rw (c.first_code.ensures new.names) (rw c.as_slice.ensures d)
 
 pub compared-returns-in_err-a-clause-does : goal.compared-returns-in_err-a-clause-does
 compared-returns-in_err-a-clause-does g t c =
@@ -965,34 +980,34 @@ compared-returns-clause-does g t c =
     let is = c.compares.ensures ∙ ap (λ z. compares c.in_ok-relation.relation z (to_z w32 (of_z w32 b))) (to_z-of_z w32 a fits) ∙ ap (compares c.in_ok-relation.relation a) (to_z-of_z w32 b fits_b) in
     compared_does (hears T.wanting T.heard) (hears_part T.wanting T.part) c.args.dimensions a _ _ _ _ _ _ c.in_ok-a.ensures.does c.in_ok-relation.relation _ _ _ _ _ _ c.in_ok-relation.ensures.does b _ is c.in_ok-b.ensures.does
 
-pub tested-returns-in_err-field-0-in-If-clause-does : goal.tested-returns-in_err-field-0-in-If-clause-does
-tested-returns-in_err-field-0-in-If-clause-does g t c =
+pub tested-returns-in_err-a-in-If-clause-does : goal.tested-returns-in_err-a-in-If-clause-does
+tested-returns-in_err-a-in-If-clause-does g t c =
     let T = g.T.Teller in
     let F = g.F.Files in
-    let d = choice_stops (hears T.wanting T.heard) (hears_part T.wanting T.part) two_faces lawful_two_faces (λ p. choose (p.0.code == p.1.code)) _ _ _ _ _ _ _ c.in_err-field-0-in-If.ensures.does in
+    let d = choice_stops (hears T.wanting T.heard) (hears_part T.wanting T.part) two_faces lawful_two_faces (λ p. choose (p.0.code == p.1.code)) _ _ _ _ _ _ _ c.in_err-a-in-If.ensures.does in
     let h = tested_as (hears T.wanting T.heard) (hears_part T.wanting T.part) If c.args.test _ _ _ _ _ _ _ c.in-If.is d in
-    search (rules, h)
+    rw (passed_on c.from_residual.result c.in_err-a-in-If.field-0.0 c.from_residual.ensures) h
 
-pub tested-returns-in-If-clause-does : goal.tested-returns-in-If-clause-does
-tested-returns-in-If-clause-does g t c =
+pub tested-returns-in_ok-a-in-If-clause-does : goal.tested-returns-in_ok-a-in-If-clause-does
+tested-returns-in_ok-a-in-If-clause-does g t c =
     let T = g.T.Teller in
     let F = g.F.Files in
-    let d = choice_does (hears T.wanting T.heard) (hears_part T.wanting T.part) two_faces lawful_two_faces (λ p. choose (p.0.code == p.1.code)) _ _ _ _ _ _ _ _ c.choose.ensures c.in_ok-field-0-in-If.ensures.does in
+    let d = choice_does (hears T.wanting T.heard) (hears_part T.wanting T.part) two_faces lawful_two_faces (λ p. choose (p.0.code == p.1.code)) _ _ _ _ _ _ _ _ c.choose.ensures c.in_ok-a-in-If.ensures.does in
     tested_as (hears T.wanting T.heard) (hears_part T.wanting T.part) If c.args.test _ _ _ _ _ _ _ c.in-If.is d
 
-pub tested-returns-in_err-field-0-in-IfCat-clause-does : goal.tested-returns-in_err-field-0-in-IfCat-clause-does
-tested-returns-in_err-field-0-in-IfCat-clause-does g t c =
+pub tested-returns-in_err-a-in-IfCat-clause-does : goal.tested-returns-in_err-a-in-IfCat-clause-does
+tested-returns-in_err-a-in-IfCat-clause-does g t c =
     let T = g.T.Teller in
     let F = g.F.Files in
-    let d = choice_stops (hears T.wanting T.heard) (hears_part T.wanting T.part) two_faces lawful_two_faces (λ p. choose (p.0.category == p.1.category)) _ _ _ _ _ _ _ c.in_err-field-0-in-IfCat.ensures.does in
+    let d = choice_stops (hears T.wanting T.heard) (hears_part T.wanting T.part) two_faces lawful_two_faces (λ p. choose (p.0.category == p.1.category)) _ _ _ _ _ _ _ c.in_err-a-in-IfCat.ensures.does in
     let h = tested_as (hears T.wanting T.heard) (hears_part T.wanting T.part) IfCat c.args.test _ _ _ _ _ _ _ c.in-IfCat.is d in
-    search (rules, h)
+    rw (passed_on c.from_residual-in_err-a-in-IfCat.result c.in_err-a-in-IfCat.field-0.0 c.from_residual-in_err-a-in-IfCat.ensures) h
 
-pub tested-returns-in-IfCat-clause-does : goal.tested-returns-in-IfCat-clause-does
-tested-returns-in-IfCat-clause-does g t c =
+pub tested-returns-in_ok-a-in-IfCat-clause-does : goal.tested-returns-in_ok-a-in-IfCat-clause-does
+tested-returns-in_ok-a-in-IfCat-clause-does g t c =
     let T = g.T.Teller in
     let F = g.F.Files in
-    let d = choice_does (hears T.wanting T.heard) (hears_part T.wanting T.part) two_faces lawful_two_faces (λ p. choose (p.0.category == p.1.category)) _ _ _ _ _ _ _ _ c.choose.ensures c.in_ok-field-0-in-IfCat.ensures.does in
+    let d = choice_does (hears T.wanting T.heard) (hears_part T.wanting T.part) two_faces lawful_two_faces (λ p. choose (p.0.category == p.1.category)) _ _ _ _ _ _ _ _ c.choose-in-IfCat.ensures c.in_ok-a-in-IfCat.ensures.does in
     tested_as (hears T.wanting T.heard) (hears_part T.wanting T.part) IfCat c.args.test _ _ _ _ _ _ _ c.in-IfCat.is d
 
 pub tested-returns-in_err-same-in-IfX-clause-does : goal.tested-returns-in_err-same-in-IfX-clause-does
@@ -1003,11 +1018,11 @@ tested-returns-in_err-same-in-IfX-clause-does g t c =
     let h = tested_as (hears T.wanting T.heard) (hears_part T.wanting T.part) IfX c.args.test _ _ _ _ _ _ _ c.in-IfX.is d in
     search (rules, h)
 
-pub tested-returns-in-IfX-clause-does : goal.tested-returns-in-IfX-clause-does
-tested-returns-in-IfX-clause-does g t c =
+pub tested-returns-in_ok-same-in-IfX-clause-does : goal.tested-returns-in_ok-same-in-IfX-clause-does
+tested-returns-in_ok-same-in-IfX-clause-does g t c =
     let T = g.T.Teller in
     let F = g.F.Files in
-    let d = choice_does (hears T.wanting T.heard) (hears_part T.wanting T.part) (λ c'. same_meanings) lawful_same_meanings choose _ _ _ _ _ _ _ _ c.choose.ensures (does_gets (hears T.wanting T.heard) (hears_part T.wanting T.part) (λ c'. same_meanings) lawful_same_meanings _ c.args.self.now c.same_meanings.new.self _ _ _ _ (T.faults c.args.tell.now) (T.loan c.args.tell.now) c.args.tell.now c.in_ok-same-in-IfX.ensures.gets) in
+    let d = choice_does (hears T.wanting T.heard) (hears_part T.wanting T.part) (λ c'. same_meanings) lawful_same_meanings choose _ _ _ _ _ _ _ _ c.choose-in-IfX.ensures (does_gets (hears T.wanting T.heard) (hears_part T.wanting T.part) (λ c'. same_meanings) lawful_same_meanings _ c.args.self.now c.same_meanings.new.self _ _ _ _ (T.faults c.args.tell.now) (T.loan c.args.tell.now) c.args.tell.now c.in_ok-same-in-IfX.ensures.gets) in
     tested_as (hears T.wanting T.heard) (hears_part T.wanting T.part) IfX c.args.test _ _ _ _ _ _ _ c.in-IfX.is d
 
 pub tested-returns-in_err-holds-in-IfNum-clause-does : goal.tested-returns-in_err-holds-in-IfNum-clause-does
@@ -1016,13 +1031,13 @@ tested-returns-in_err-holds-in-IfNum-clause-does g t c =
     let F = g.F.Files in
     let d = choice_stops (hears T.wanting T.heard) (hears_part T.wanting T.part) (λ c'. compared c' false) (lawful_compared false) choose _ _ _ _ _ _ _ c.in_err-holds-in-IfNum.ensures.does in
     let h = tested_as (hears T.wanting T.heard) (hears_part T.wanting T.part) IfNum c.args.test _ _ _ _ _ _ _ c.in-IfNum.is d in
-    search (rules, h)
+    rw (passed_on c.from_residual-in_err-holds-in-IfNum.result c.in_err-holds-in-IfNum.field-0.0 c.from_residual-in_err-holds-in-IfNum.ensures) h
 
-pub tested-returns-in-IfNum-clause-does : goal.tested-returns-in-IfNum-clause-does
-tested-returns-in-IfNum-clause-does g t c =
+pub tested-returns-in_ok-holds-in-IfNum-clause-does : goal.tested-returns-in_ok-holds-in-IfNum-clause-does
+tested-returns-in_ok-holds-in-IfNum-clause-does g t c =
     let T = g.T.Teller in
     let F = g.F.Files in
-    let d = choice_does (hears T.wanting T.heard) (hears_part T.wanting T.part) (λ c'. compared c' false) (lawful_compared false) choose _ _ _ _ _ _ _ _ c.choose.ensures c.in_ok-holds-in-IfNum.ensures.does in
+    let d = choice_does (hears T.wanting T.heard) (hears_part T.wanting T.part) (λ c'. compared c' false) (lawful_compared false) choose _ _ _ _ _ _ _ _ c.choose-in-IfNum.ensures c.in_ok-holds-in-IfNum.ensures.does in
     tested_as (hears T.wanting T.heard) (hears_part T.wanting T.part) IfNum c.args.test _ _ _ _ _ _ _ c.in-IfNum.is d
 
 pub tested-returns-in_err-holds-in-IfDim-clause-does : goal.tested-returns-in_err-holds-in-IfDim-clause-does
@@ -1031,13 +1046,13 @@ tested-returns-in_err-holds-in-IfDim-clause-does g t c =
     let F = g.F.Files in
     let d = choice_stops (hears T.wanting T.heard) (hears_part T.wanting T.part) (λ c'. compared c' true) (lawful_compared true) choose _ _ _ _ _ _ _ c.in_err-holds-in-IfDim.ensures.does in
     let h = tested_as (hears T.wanting T.heard) (hears_part T.wanting T.part) IfDim c.args.test _ _ _ _ _ _ _ c.in-IfDim.is d in
-    search (rules, h)
+    rw (passed_on c.from_residual-in_err-holds-in-IfDim.result c.in_err-holds-in-IfDim.field-0.0 c.from_residual-in_err-holds-in-IfDim.ensures) h
 
-pub tested-returns-in-IfDim-clause-does : goal.tested-returns-in-IfDim-clause-does
-tested-returns-in-IfDim-clause-does g t c =
+pub tested-returns-in_ok-holds-in-IfDim-clause-does : goal.tested-returns-in_ok-holds-in-IfDim-clause-does
+tested-returns-in_ok-holds-in-IfDim-clause-does g t c =
     let T = g.T.Teller in
     let F = g.F.Files in
-    let d = choice_does (hears T.wanting T.heard) (hears_part T.wanting T.part) (λ c'. compared c' true) (lawful_compared true) choose _ _ _ _ _ _ _ _ c.choose.ensures c.in_ok-holds-in-IfDim.ensures.does in
+    let d = choice_does (hears T.wanting T.heard) (hears_part T.wanting T.part) (λ c'. compared c' true) (lawful_compared true) choose _ _ _ _ _ _ _ _ c.choose-in-IfDim.ensures c.in_ok-holds-in-IfDim.ensures.does in
     tested_as (hears T.wanting T.heard) (hears_part T.wanting T.part) IfDim c.args.test _ _ _ _ _ _ _ c.in-IfDim.is d
 
 pub tested-returns-in_err-number-in-IfOdd-clause-does : goal.tested-returns-in_err-number-in-IfOdd-clause-does
@@ -1046,15 +1061,15 @@ tested-returns-in_err-number-in-IfOdd-clause-does g t c =
     let F = g.F.Files in
     let d = choice_stops (hears T.wanting T.heard) (hears_part T.wanting T.part) number lawful_number (λ i. choose (is_odd i)) _ _ _ _ _ _ _ c.in_err-number-in-IfOdd.ensures.does in
     let h = tested_as (hears T.wanting T.heard) (hears_part T.wanting T.part) IfOdd c.args.test _ _ _ _ _ _ _ c.in-IfOdd.is d in
-    search (rules, h)
+    rw (passed_on c.from_residual-in_err-number-in-IfOdd.result c.in_err-number-in-IfOdd.field-0.0 c.from_residual-in_err-number-in-IfOdd.ensures) h
 
-pub tested-returns-in-IfOdd-clause-does : goal.tested-returns-in-IfOdd-clause-does
-tested-returns-in-IfOdd-clause-does g t c =
+pub tested-returns-in_ok-number-in-IfOdd-clause-does : goal.tested-returns-in_ok-number-in-IfOdd-clause-does
+tested-returns-in_ok-number-in-IfOdd-clause-does g t c =
     let T = g.T.Teller in
     let F = g.F.Files in
     let i = c.in_ok-number-in-IfOdd.number in
     let fits : FitsSigned w32 i = search rules in
-    let d = choice_does (hears T.wanting T.heard) (hears_part T.wanting T.part) number lawful_number (λ i. choose (is_odd i)) i _ _ _ _ _ _ _ (c.choose.ensures ∙ ap choose c.is_odd.ensures ∙ ap (λ z. choose (is_odd z)) (to_z-of_z w32 i fits)) c.in_ok-number-in-IfOdd.ensures.does in
+    let d = choice_does (hears T.wanting T.heard) (hears_part T.wanting T.part) number lawful_number (λ i. choose (is_odd i)) i _ _ _ _ _ _ _ (c.choose-in-IfOdd.ensures ∙ ap choose c.is_odd.ensures ∙ ap (λ z. choose (is_odd z)) (to_z-of_z w32 i fits)) c.in_ok-number-in-IfOdd.ensures.does in
     tested_as (hears T.wanting T.heard) (hears_part T.wanting T.part) IfOdd c.args.test _ _ _ _ _ _ _ c.in-IfOdd.is d
 
 pub tested-returns-in_err-number-in-IfCase-clause-does : goal.tested-returns-in_err-number-in-IfCase-clause-does
@@ -1063,10 +1078,10 @@ tested-returns-in_err-number-in-IfCase-clause-does g t c =
     let F = g.F.Files in
     let d = choice_stops (hears T.wanting T.heard) (hears_part T.wanting T.part) number lawful_number choose_case _ _ _ _ _ _ _ c.in_err-number-in-IfCase.ensures.does in
     let h = tested_as (hears T.wanting T.heard) (hears_part T.wanting T.part) IfCase c.args.test _ _ _ _ _ _ _ c.in-IfCase.is d in
-    search (rules, h)
+    rw (passed_on c.from_residual-in_err-number-in-IfCase.result c.in_err-number-in-IfCase.field-0.0 c.from_residual-in_err-number-in-IfCase.ensures) h
 
-pub tested-returns-in-IfCase-clause-does : goal.tested-returns-in-IfCase-clause-does
-tested-returns-in-IfCase-clause-does g t c =
+pub tested-returns-in_ok-number-in-IfCase-clause-does : goal.tested-returns-in_ok-number-in-IfCase-clause-does
+tested-returns-in_ok-number-in-IfCase-clause-does g t c =
     let T = g.T.Teller in
     let F = g.F.Files in
     let i = c.in_ok-number-in-IfCase.number in
@@ -1078,13 +1093,13 @@ pub tested-returns-in-IfTrue-clause-does : goal.tested-returns-in-IfTrue-clause-
 tested-returns-in-IfTrue-clause-does g t c =
     let T = g.T.Teller in
     let F = g.F.Files in
-    tested_as (hears T.wanting T.heard) (hears_part T.wanting T.part) IfTrue c.args.test _ _ _ _ _ _ _ c.in-IfTrue.is (rw c.choose.ensures (does_now (hears T.wanting T.heard) (hears_part T.wanting T.part) (choose true) c.args.self.now (outside (F.shelf c.args.files.now) (F.faults c.args.files.now) (T.faults c.args.tell.now) (T.loan c.args.tell.now)) c.args.tell.now c.requires.sound c.requires.running c.requires.owns))
+    tested_as (hears T.wanting T.heard) (hears_part T.wanting T.part) IfTrue c.args.test _ _ _ _ _ _ _ c.in-IfTrue.is (rw c.choose-in-IfTrue.ensures (does_now (hears T.wanting T.heard) (hears_part T.wanting T.part) (choose true) c.args.self.now (outside (F.shelf c.args.files.now) (F.faults c.args.files.now) (T.faults c.args.tell.now) (T.loan c.args.tell.now)) c.args.tell.now c.requires.sound c.requires.running c.requires.owns))
 
 pub tested-returns-in-IfFalse-clause-does : goal.tested-returns-in-IfFalse-clause-does
 tested-returns-in-IfFalse-clause-does g t c =
     let T = g.T.Teller in
     let F = g.F.Files in
-    tested_as (hears T.wanting T.heard) (hears_part T.wanting T.part) IfFalse c.args.test _ _ _ _ _ _ _ c.in-IfFalse.is (rw c.choose.ensures (does_now (hears T.wanting T.heard) (hears_part T.wanting T.part) (choose false) c.args.self.now (outside (F.shelf c.args.files.now) (F.faults c.args.files.now) (T.faults c.args.tell.now) (T.loan c.args.tell.now)) c.args.tell.now c.requires.sound c.requires.running c.requires.owns))
+    tested_as (hears T.wanting T.heard) (hears_part T.wanting T.part) IfFalse c.args.test _ _ _ _ _ _ _ c.in-IfFalse.is (rw c.choose-in-IfFalse.ensures (does_now (hears T.wanting T.heard) (hears_part T.wanting T.part) (choose false) c.args.self.now (outside (F.shelf c.args.files.now) (F.faults c.args.files.now) (T.faults c.args.tell.now) (T.loan c.args.tell.now)) c.args.tell.now c.requires.sound c.requires.running c.requires.owns))
 
 pub conditional-returns-in_err-at-clause-does : goal.conditional-returns-in_err-at-clause-does
 conditional-returns-in_err-at-clause-does g t c =
@@ -1111,5 +1126,339 @@ pub conditional-returns-clause-does : goal.conditional-returns-clause-does
 conditional-returns-clause-does g t c =
     let T = g.T.Teller in
     let F = g.F.Files in
-    conditional_does (hears T.wanting T.heard) (hears_part T.wanting T.part) c.args.test c.in_ok-at.at _ _ _ _ _ _ (does_silent (hears T.wanting T.heard) (hears_part T.wanting T.part) (λ c'. open_test) lawful_open_test _ c.args.self.now c.open_test.new.self (outside (F.shelf c.args.files.now) (F.faults c.args.files.now) (T.faults c.args.tell.now) (T.loan c.args.tell.now)) c.args.tell.now (c.in_ok-at.ensures.opens (F.shelf c.args.files.now)) c.in_ok-at.ensures.kept c.in_ok-at.ensures.limit c.in_ok-at.ensures.keeps c.in_ok-at.ensures.progress c.in_ok-at.ensures.files c.requires.owns) c.in_ok-choice.choice _ _ _ _ _ _ c.in_ok-choice.ensures.does (does_gets (hears T.wanting T.heard) (hears_part T.wanting T.part) (λ c'. chosen c.in_ok-at.at c.in_ok-choice.choice) (lawful_chosen c.in_ok-at.at c.in_ok-choice.choice) _ c.tested.new.self c.chosen.new.self _ _ _ _ (T.faults c.tested.new.tell) (T.loan c.tested.new.tell) c.tested.new.tell c.in_ok-chosen.ensures.gets)
+    rw c.new.ensures (conditional_does (hears T.wanting T.heard) (hears_part T.wanting T.part) c.args.test c.in_ok-at.at _ _ _ _ _ _ (does_silent (hears T.wanting T.heard) (hears_part T.wanting T.part) (λ c'. open_test) lawful_open_test _ c.args.self.now c.open_test.new.self (outside (F.shelf c.args.files.now) (F.faults c.args.files.now) (T.faults c.args.tell.now) (T.loan c.args.tell.now)) c.args.tell.now (c.in_ok-at.ensures.opens (F.shelf c.args.files.now)) c.in_ok-at.ensures.kept c.in_ok-at.ensures.limit c.in_ok-at.ensures.keeps c.in_ok-at.ensures.progress c.in_ok-at.ensures.files c.requires.owns) c.in_ok-choice.choice _ _ _ _ _ _ c.in_ok-choice.ensures.does (does_gets (hears T.wanting T.heard) (hears_part T.wanting T.part) (λ c'. chosen c.in_ok-at.at c.in_ok-choice.choice) (lawful_chosen c.in_ok-at.at c.in_ok-choice.choice) _ c.tested.new.self c.chosen.new.self _ _ _ _ (T.faults c.tested.new.tell) (T.loan c.tested.new.tell) c.tested.new.tell c.in_ok-chosen.ensures.gets))
 
+pub next_internal-returns-clause-lower : goal.next_internal-returns-clause-lower
+next_internal-returns-clause-lower g t c =
+    let first = rw c.in-Some.is at c.in_ok-looked.ensures.lower in
+    ok_then c.internal.result 1 0 0 _ _ _ _ c.next_looked.new.self c.internal.new.self first c.internal.ensures.lower (omega arith)
+
+pub conditional-tested-requires : goal.conditional-tested-requires
+conditional-tested-requires g t c κs within =
+    let e = c.in_ok-at.ensures in
+    let low = e.lower (g.F.Files.shelf c.args.files.now) in
+    let owns = owns_same (g.F.Files.shelf c.args.files.now) c.args.self.now c.open_test.new.self c.requires.owns e.files in
+    (omega (arith, c.decreases, low.nesting), (within.0, (within.1, (e.kept, (e.keeps.sound, owns)))))
+
+pub relation-gather-requires : goal.relation-gather-requires
+relation-gather-requires g t c κs within = (omega (arith, c.decreases), (within.0, (within.1, (c.requires.running, (c.requires.sound, c.requires.owns)))))
+
+-- \expandafter
+
+pub expand_after-returns-in_err-first-clause-does : goal.expand_after-returns-in_err-first-clause-does
+expand_after-returns-in_err-first-clause-does g t c =
+    let T = g.T.Teller in
+    let F = g.F.Files in
+    let tell = c.args.tell.now in
+    let d = does_gets (hears T.wanting T.heard) (hears_part T.wanting T.part) (λ c'. one_token) lawful_one_token _ c.args.self.now c.one_token.new.self _ _ _ _ (T.faults tell) (T.loan tell) tell c.in_err-first.ensures.gets in
+    let h = after_stops (hears T.wanting T.heard) (hears_part T.wanting T.part) _ _ _ _ _ _ _ d in
+    search (rules, h)
+
+pub expand_after-returns-in_err-front-clause-does : goal.expand_after-returns-in_err-front-clause-does
+expand_after-returns-in_err-front-clause-does g t c =
+    let T = g.T.Teller in
+    let F = g.F.Files in
+    let tell = c.args.tell.now in
+    let mid = c.one_token.new.self in
+    let first = token_at mid.names c.in_ok-first.first in
+    let d = does_gets (hears T.wanting T.heard) (hears_part T.wanting T.part) (λ c'. one_token) lawful_one_token _ c.args.self.now mid _ _ _ _ (T.faults tell) (T.loan tell) tell c.in_ok-first.ensures.gets in
+    let k = does_gets (hears T.wanting T.heard) (hears_part T.wanting T.part) (λ c'. front) lawful_front _ mid c.front.new.self _ _ _ _ (T.faults tell) (T.loan tell) tell c.in_err-front.ensures.gets in
+    let h = after_first (hears T.wanting T.heard) (hears_part T.wanting T.part) first _ _ _ _ _ _ _ _ _ _ d (second_stops (hears T.wanting T.heard) (hears_part T.wanting T.part) first _ _ _ _ _ _ _ k) in
+    search (rules, h)
+
+pub expand_after-returns-in-Nothing-clause-does : goal.expand_after-returns-in-Nothing-clause-does
+expand_after-returns-in-Nothing-clause-does g t c =
+    let T = g.T.Teller in
+    let F = g.F.Files in
+    let tell = c.args.tell.now in
+    let files = c.front.new.files in
+    let mid = c.one_token.new.self in
+    let now = c.front.new.self in
+    let first = token_at mid.names c.in_ok-first.first in
+    let d = does_gets (hears T.wanting T.heard) (hears_part T.wanting T.part) (λ c'. one_token) lawful_one_token _ c.args.self.now mid _ _ _ _ (T.faults tell) (T.loan tell) tell c.in_ok-first.ensures.gets in
+    let k = does_gets (hears T.wanting T.heard) (hears_part T.wanting T.part) (λ c'. front) lawful_front (Ok fronts.Nothing) mid now _ _ _ _ (T.faults tell) (T.loan tell) tell (rw c.in-Nothing.is at c.in_ok-front.ensures.gets) in
+    let e = c.bare_fault.ensures in
+    let u = does_fault (hears T.wanting T.heard) (hears_part T.wanting T.part) (λ c'. behind_first c' first fronts.Nothing) (lawful_behind_first first fronts.Nothing) FILE_ENDED [] c.bare_fault.result now c.bare_fault.new.self (outside (F.shelf files) (F.faults files) (T.faults tell) (T.loan tell)) tell refl e.is e.kept k.holds.owns in
+    after_first (hears T.wanting T.heard) (hears_part T.wanting T.part) first _ _ _ _ _ _ _ _ _ _ d (second_is (hears T.wanting T.heard) (hears_part T.wanting T.part) first fronts.Nothing _ _ _ _ _ _ _ _ _ _ k u)
+
+pub expand_after-returns-in-Plain-clause-does : goal.expand_after-returns-in-Plain-clause-does
+expand_after-returns-in-Plain-clause-does g t c =
+    let T = g.T.Teller in
+    let F = g.F.Files in
+    let tell = c.args.tell.now in
+    let files = c.front.new.files in
+    let mid = c.one_token.new.self in
+    let now = c.front.new.self in
+    let new = c.puts.new.self in
+    let first = token_at mid.names c.in_ok-first.first in
+    let read = read_at now.names c.in-Plain.second in
+    let d = does_gets (hears T.wanting T.heard) (hears_part T.wanting T.part) (λ c'. one_token) lawful_one_token _ c.args.self.now mid _ _ _ _ (T.faults tell) (T.loan tell) tell c.in_ok-first.ensures.gets in
+    let k = does_gets (hears T.wanting T.heard) (hears_part T.wanting T.part) (λ c'. front) lawful_front (Ok (fronts.Plain read)) mid now _ _ _ _ (T.faults tell) (T.loan tell) tell (rw c.in-Plain.is at c.in_ok-front.ensures.gets) in
+    let kept = token_kept mid.names now.names k.progress.names c.in_ok-first.first c.in_ok-first.ensures.within in
+    let e = c.puts.ensures in
+    let gift = Puts (token_at now.names c.in_ok-first.first ∷ read.token ∷ []) in
+    let u = does_as (hears T.wanting T.heard) (hears_part T.wanting T.part) (gift_at new.names) (λ c'. give gift) (lawful_give gift) c.puts.result now new (outside (F.shelf files) (F.faults files) (T.faults tell) (T.loan tell)) tell (by_new gift_at (give gift) c.puts.result now new e.puts e.same) e.kept e.limit e.keeps e.progress e.files k.holds.owns in
+    after_first (hears T.wanting T.heard) (hears_part T.wanting T.part) first _ _ _ _ _ _ _ _ _ _ d
+    (second_is (hears T.wanting T.heard) (hears_part T.wanting T.part) first (fronts.Plain read) _ _ _ _ _ _ _ _ _ _ k (behind_plain (hears T.wanting T.heard) (hears_part T.wanting T.part) _ first read _ _ _ _ _ _ _ kept u))
+
+pub expand_after-returns-in_err-expand-in-Expands-clause-does : goal.expand_after-returns-in_err-expand-in-Expands-clause-does
+expand_after-returns-in_err-expand-in-Expands-clause-does g t c =
+    let T = g.T.Teller in
+    let F = g.F.Files in
+    let tell = c.args.tell.now in
+    let mid = c.one_token.new.self in
+    let now = c.front.new.self in
+    let first = token_at mid.names c.in_ok-first.first in
+    let second = token_at now.names c.in-Expands.second in
+    let x = expandable_at now.names c.in-Expands.found in
+    let d = does_gets (hears T.wanting T.heard) (hears_part T.wanting T.part) (λ c'. one_token) lawful_one_token _ c.args.self.now mid _ _ _ _ (T.faults tell) (T.loan tell) tell c.in_ok-first.ensures.gets in
+    let k = does_gets (hears T.wanting T.heard) (hears_part T.wanting T.part) (λ c'. front) lawful_front (Ok (fronts.Expands second x)) mid now _ _ _ _ (T.faults tell) (T.loan tell) tell (rw c.in-Expands.is at c.in_ok-front.ensures.gets) in
+    let h = after_first (hears T.wanting T.heard) (hears_part T.wanting T.part) first _ _ _ _ _ _ _ _ _ _ d
+        (second_is (hears T.wanting T.heard) (hears_part T.wanting T.part) first (fronts.Expands second x) _ _ _ _ _ _ _ _ _ _ k (behind_stops (hears T.wanting T.heard) (hears_part T.wanting T.part) first second x _ _ _ _ _ _ _ c.in_err-expand-in-Expands.ensures.does)) in
+    search (rules, h)
+
+pub expand_after-returns-in_ok-expand-in-Expands-clause-does : goal.expand_after-returns-in_ok-expand-in-Expands-clause-does
+expand_after-returns-in_ok-expand-in-Expands-clause-does g t c =
+    let T = g.T.Teller in
+    let F = g.F.Files in
+    let tell = c.args.tell.now in
+    let last = c.expand.new.tell in
+    let files = c.expand.new.files in
+    let mid = c.one_token.new.self in
+    let now = c.front.new.self in
+    let then = c.expand.new.self in
+    let new = c.puts-in-Expands.new.self in
+    let first = token_at mid.names c.in_ok-first.first in
+    let second = token_at now.names c.in-Expands.second in
+    let x = expandable_at now.names c.in-Expands.found in
+    let d = does_gets (hears T.wanting T.heard) (hears_part T.wanting T.part) (λ c'. one_token) lawful_one_token _ c.args.self.now mid _ _ _ _ (T.faults tell) (T.loan tell) tell c.in_ok-first.ensures.gets in
+    let k = does_gets (hears T.wanting T.heard) (hears_part T.wanting T.part) (λ c'. front) lawful_front (Ok (fronts.Expands second x)) mid now _ _ _ _ (T.faults tell) (T.loan tell) tell (rw c.in-Expands.is at c.in_ok-front.ensures.gets) in
+    let l = c.in_ok-expand-in-Expands.ensures.does in
+    let within = token_more (length mid.names) (length now.names) k.progress.names.longer c.in_ok-first.first c.in_ok-first.ensures.within in
+    let kept = token_kept now.names then.names l.progress.names c.in_ok-first.first within ∙ token_kept mid.names now.names k.progress.names c.in_ok-first.first c.in_ok-first.ensures.within in
+    let e = c.puts-in-Expands.ensures in
+    let gift = Puts (token_at then.names c.in_ok-first.first ∷ []) in
+    let u = does_as (hears T.wanting T.heard) (hears_part T.wanting T.part) (gift_at new.names) (λ c'. give gift) (lawful_give gift) c.puts-in-Expands.result then new (outside (F.shelf files) (F.faults files) (T.faults last) (T.loan last)) last (by_new gift_at (give gift) c.puts-in-Expands.result then new e.puts e.same) e.kept e.limit e.keeps e.progress e.files l.holds.owns in
+    after_first (hears T.wanting T.heard) (hears_part T.wanting T.part) first _ _ _ _ _ _ _ _ _ _ d
+    (second_is (hears T.wanting T.heard) (hears_part T.wanting T.part) first (fronts.Expands second x) _ _ _ _ _ _ _ _ _ _ k (behind_expands (hears T.wanting T.heard) (hears_part T.wanting T.part) _ first second x _ _ _ _ _ _ _ _ _ _ kept l u))
+
+pub expand_after-returns-in-Plain-clause-lower : goal.expand_after-returns-in-Plain-clause-lower
+expand_after-returns-in-Plain-clause-lower g t c =
+    let second = rw c.in-Plain.is at c.in_ok-front.ensures.lower in
+    ok_same c.puts.result 0 _ _ _ c.front.new.self c.puts.new.self (shrinks_then 1 1 0 _ _ _ _ c.one_token.new.self _ c.in_ok-first.ensures.lower second (omega arith)) c.puts.ensures.same
+
+-- \csname
+
+pub cs_name-returns-in_err-list-clause-does : goal.cs_name-returns-in_err-list-clause-does
+cs_name-returns-in_err-list-clause-does g t c =
+    let T = g.T.Teller in
+    let F = g.F.Files in
+    let h = name_stops (hears T.wanting T.heard) (hears_part T.wanting T.part) _ _ _ _ _ _ _ c.in_err-list.ensures.does in
+    search (rules, h)
+
+pub cs_name-returns-clause-does : goal.cs_name-returns-clause-does
+cs_name-returns-clause-does g t c =
+    let T = g.T.Teller in
+    let F = g.F.Files in
+    let last = c.gather.new.tell in
+    let files = c.gather.new.files in
+    let mid = c.gather.new.self in
+    let new = c.named.new.self in
+    let list = tokens_at mid.names c.in_ok-list.list in
+    let e = c.named.ensures in
+    let d = c.in_ok-list.ensures.does in
+    let names = subst (λ l. Local (name_of (tokens_at mid.names l)) (ok_at (gift_at new.names) c.named.result) mid new) c.as_slice.ensures e.names in
+    let u = does_as (hears T.wanting T.heard) (hears_part T.wanting T.part) (gift_at new.names) (λ c'. name_of list) (lawful_name_of list) c.named.result mid new (outside (F.shelf files) (F.faults files) (T.faults last) (T.loan last)) last names e.kept e.limit e.keeps e.progress e.files d.holds.owns in
+    name_does (hears T.wanting T.heard) (hears_part T.wanting T.part) list _ _ _ _ _ _ _ _ _ _ d u
+
+pub cs_name-returns-clause-lower : goal.cs_name-returns-clause-lower
+cs_name-returns-clause-lower g t c = ok_puts c.named.result 0 0 0 _ _ _ c.gather.new.self c.named.new.self c.in_ok-list.ensures.lower c.named.ensures.puts (omega arith)
+
+-- Gathering
+
+pub gather-returns-in_err-front-clause-does : goal.gather-returns-in_err-front-clause-does
+gather-returns-in_err-front-clause-does g t c =
+    let T = g.T.Teller in
+    let F = g.F.Files in
+    let i = c.tokens.invariant.on in
+    let mid = c.front.new.self in
+    let tell = c.tokens.tell in
+    let d = did_gets (hears T.wanting T.heard) (hears_part T.wanting T.part) front _ c.tokens.self mid _ _ _ _ (T.faults tell) (T.loan tell) tell c.in_err-front.ensures.gets in
+    let h = gather_stops (hears T.wanting T.heard) (hears_part T.wanting T.part) c.args.gathering _ _ _ _ _ _ _ _ _ _ i d in
+    search (rules, h)
+
+pub gather-returns-in-Nothing-clause-does : goal.gather-returns-in-Nothing-clause-does
+gather-returns-in-Nothing-clause-does g t c =
+    let T = g.T.Teller in
+    let F = g.F.Files in
+    let i = c.tokens.invariant.on in
+    let mid = c.front.new.self in
+    let tell = c.tokens.tell in
+    let d = front_did (hears T.wanting T.heard) (hears_part T.wanting T.part) _ _ c.tokens.self mid _ _ _ _ (T.faults tell) (T.loan tell) tell c.in-Nothing.is c.in_ok-front.ensures.gets in
+    let e = c.bare_fault.ensures in
+    gather_ends (hears T.wanting T.heard) (hears_part T.wanting T.part) c.args.gathering _ _ _ mid _ _ _ _ _ _ _ i d e.is e.kept
+
+pub gather-returns-in-Err-clause-does : goal.gather-returns-in-Err-clause-does
+gather-returns-in-Err-clause-does g t c =
+    let T = g.T.Teller in
+    let F = g.F.Files in
+    let i = c.tokens.invariant.on in
+    let mid = c.front.new.self in
+    let tell = c.tokens.tell in
+    let d = front_did (hears T.wanting T.heard) (hears_part T.wanting T.part) _ _ c.tokens.self mid _ _ _ _ (T.faults tell) (T.loan tell) tell c.in-Plain.is c.in_ok-front.ensures.gets in
+    let files = c.front.new.files in
+    let e = c.no_memory.ensures in
+    gather_broken (hears T.wanting T.heard) (hears_part T.wanting T.part) c.args.gathering (Plain (read_at mid.names c.in-Plain.read)) _ _ _ mid _ _ _ _ _ _ _ _ _ i d (did_out (hears T.wanting T.heard) (hears_part T.wanting T.part) _ c.no_memory.result mid c.no_memory.new.self (outside (F.shelf files) (F.faults files) (T.faults tell) (T.loan tell)) tell e.is e.kept d.holds.owns)
+
+pub gather-returns-in-Err-push-clause-does : goal.gather-returns-in-Err-push-clause-does
+gather-returns-in-Err-push-clause-does g t c =
+    let T = g.T.Teller in
+    let F = g.F.Files in
+    let i = c.tokens.invariant.on in
+    let mid = c.front.new.self in
+    let tell = c.tokens.tell in
+    let d = front_did (hears T.wanting T.heard) (hears_part T.wanting T.part) _ _ c.tokens.self mid _ _ _ _ (T.faults tell) (T.loan tell) tell c.in-Plain.is c.in_ok-front.ensures.gets in
+    let files = c.front.new.files in
+    let e = c.no_memory-in-Err-push.ensures in
+    gather_broken (hears T.wanting T.heard) (hears_part T.wanting T.part) c.args.gathering (Plain (read_at mid.names c.in-Plain.read)) _ _ _ mid _ _ _ _ _ _ _ _ _ i d (did_out (hears T.wanting T.heard) (hears_part T.wanting T.part) _ c.no_memory-in-Err-push.result mid c.no_memory-in-Err-push.new.self (outside (F.shelf files) (F.faults files) (T.faults tell) (T.loan tell)) tell e.is e.kept d.holds.owns)
+
+pub gather-returns-in-Yields-clause-does : goal.gather-returns-in-Yields-clause-does
+gather-returns-in-Yields-clause-does g t c =
+    let T = g.T.Teller in
+    let F = g.F.Files in
+    let i = c.tokens.invariant.on in
+    let mid = c.front.new.self in
+    let tell = c.tokens.tell in
+    let d = front_did (hears T.wanting T.heard) (hears_part T.wanting T.part) _ _ c.tokens.self mid _ _ _ _ (T.faults tell) (T.loan tell) tell c.in-Plain.is c.in_ok-front.ensures.gets in
+    let is = rw c.in-Yields.is at c.in-Ok.ensures.is in
+    gather_yields (hears T.wanting T.heard) (hears_part T.wanting T.part) c.args.gathering (tokens_at mid.names c.in-Yields.list) c.in-Plain.read _ _ mid _ _ _ _ _ _ i d is
+
+pub gather-returns-in-Refuses-clause-does : goal.gather-returns-in-Refuses-clause-does
+gather-returns-in-Refuses-clause-does g t c =
+    let T = g.T.Teller in
+    let F = g.F.Files in
+    let i = c.tokens.invariant.on in
+    let mid = c.front.new.self in
+    let tell = c.tokens.tell in
+    let d = front_did (hears T.wanting T.heard) (hears_part T.wanting T.part) _ _ c.tokens.self mid _ _ _ _ (T.faults tell) (T.loan tell) tell c.in-Plain.is c.in_ok-front.ensures.gets in
+    let is = rw c.in-Refuses.is at c.in-Ok.ensures.is in
+    let e = c.bare_fault-in-Refuses.ensures in
+    gather_refuses (hears T.wanting T.heard) (hears_part T.wanting T.part) c.args.gathering c.in-Refuses.code _ c.in-Plain.read _ _ mid _ _ _ _ _ _ _ i d is e.is e.kept
+
+pub gather-tokens-preserved : goal.gather-tokens-preserved
+gather-tokens-preserved g t c =
+    let T = g.T.Teller in
+    let F = g.F.Files in
+    let i = c.tokens.invariant.on in
+    let mid = c.front.new.self in
+    let tell = c.tokens.tell in
+    let d = front_did (hears T.wanting T.heard) (hears_part T.wanting T.part) _ _ c.tokens.self mid _ _ _ _ (T.faults tell) (T.loan tell) tell c.in-Plain.is c.in_ok-front.ensures.gets in
+    let is = rw c.in-TooShort.is at c.in-Ok.ensures.is in
+    let low = rw c.in-Plain.is at c.in_ok-front.ensures.lower in
+    let within = rw c.in-Plain.is at c.in_ok-front.ensures.within in
+    let on = gathers_token (hears T.wanting T.heard) (hears_part T.wanting T.part) c.args.gathering c.in-Plain.read _ _ mid _ _ _ _ _ _ i d low within is in
+    record { on = rw c.in-Ok-push.ensures on; begun = c.in_ok-front.ensures.begun ∙ c.tokens.invariant.begun; limit = d.progress.limit ∙ c.tokens.invariant.limit }
+
+pub gather-returns-in_err-list-in-Expands-clause-does : goal.gather-returns-in_err-list-in-Expands-clause-does
+gather-returns-in_err-list-in-Expands-clause-does g t c =
+    let T = g.T.Teller in
+    let F = g.F.Files in
+    let i = c.tokens.invariant.on in
+    let mid = c.front.new.self in
+    let tell = c.tokens.tell in
+    let d = front_did (hears T.wanting T.heard) (hears_part T.wanting T.part) _ _ c.tokens.self mid _ _ _ _ (T.faults tell) (T.loan tell) tell c.in-Expands.is c.in_ok-front.ensures.gets in
+    let h = gather_unexpanded (hears T.wanting T.heard) (hears_part T.wanting T.part) c.args.gathering (token_at mid.names c.in-Expands.token) (expandable_at mid.names c.in-Expands.found) _ _ _ mid _ _ _ _ _ _ _ _ _ i d c.in_err-list-in-Expands.ensures.does in
+    rw (passed_on c.from_residual-in_err-list-in-Expands.result c.in_err-list-in-Expands.field-0.0 c.from_residual-in_err-list-in-Expands.ensures) h
+
+pub gather-returns-in-Err-extend-clause-does : goal.gather-returns-in-Err-extend-clause-does
+gather-returns-in-Err-extend-clause-does g t c =
+    let T = g.T.Teller in
+    let F = g.F.Files in
+    let i = c.tokens.invariant.on in
+    let mid = c.front.new.self in
+    let tell = c.tokens.tell in
+    let d = front_did (hears T.wanting T.heard) (hears_part T.wanting T.part) _ _ c.tokens.self mid _ _ _ _ (T.faults tell) (T.loan tell) tell c.in-Expands.is c.in_ok-front.ensures.gets in
+    let e = c.no_memory-in-Err-extend.ensures in
+    gather_short (hears T.wanting T.heard) (hears_part T.wanting T.part) c.args.gathering (token_at mid.names c.in-Expands.token) (expandable_at mid.names c.in-Expands.found) c.in_ok-list-in-Expands.list _ _ _ mid c.at_once.new.self _ _ _ _ _ _ _ _ _ i d c.in_ok-list-in-Expands.ensures.does e.is e.kept
+
+pub gather-rounds-preserved : goal.gather-rounds-preserved
+gather-rounds-preserved g t c =
+    let T = g.T.Teller in
+    let F = g.F.Files in
+    let i = c.tokens.invariant.on in
+    let mid = c.front.new.self in
+    let tell = c.tokens.tell in
+    let d = front_did (hears T.wanting T.heard) (hears_part T.wanting T.part) _ _ c.tokens.self mid _ _ _ _ (T.faults tell) (T.loan tell) tell c.in-Expands.is c.in_ok-front.ensures.gets in
+    let x = c.in_ok-list-in-Expands.ensures in
+    let low = rw c.in-Expands.is at c.in_ok-front.ensures.lower in
+    let on = gathers_expansion (hears T.wanting T.heard) (hears_part T.wanting T.part) c.args.gathering (token_at mid.names c.in-Expands.token) (expandable_at mid.names c.in-Expands.found) c.in_ok-list-in-Expands.list _ _ mid c.at_once.new.self _ _ _ _ _ _ _ _ i d low x.does x.begins x.within in
+    rw c.in-Ok-extend.ensures on
+
+pub at_once-returns-in_err-expand-clause-does : goal.at_once-returns-in_err-expand-clause-does
+at_once-returns-in_err-expand-clause-does g t c =
+    let T = g.T.Teller in
+    let mine = c.args.self.now in
+    let is = sym (c.copies.ensures mine.names) ∙ c.if-copies.false in
+    let h = once_stops (hears T.wanting T.heard) (hears_part T.wanting T.part) (token_at mine.names c.args.token) (expandable_at mine.names c.args.found) (copies c.args.gathering (expandable_at mine.names c.args.found)) _ _ _ _ _ _ _ is c.in_err-expand.ensures.does in
+    search (rules, h)
+
+pub at_once-returns-in_ok-expand-clause-does : goal.at_once-returns-in_ok-expand-clause-does
+at_once-returns-in_ok-expand-clause-does g t c =
+    let T = g.T.Teller in
+    let mine = c.args.self.now in
+    let is = sym (c.copies.ensures mine.names) ∙ c.if-copies.false in
+    rw c.new.ensures (once_expanded (hears T.wanting T.heard) (hears_part T.wanting T.part) (token_at mine.names c.args.token) (expandable_at mine.names c.args.found) (copies c.args.gathering (expandable_at mine.names c.args.found)) _ _ _ _ _ _ is c.in_ok-expand.ensures.does)
+
+-- what \the gives at once
+
+pub copy-returns-in_err-begin-clause-does : goal.copy-returns-in_err-begin-clause-does
+copy-returns-in_err-begin-clause-does g t c =
+    let T = g.T.Teller in
+    let F = g.F.Files in
+    let b = c.in_err-begin.ensures in
+    let mine = c.args.self.now in
+    let d = begins_did (hears T.wanting T.heard) (hears_part T.wanting T.part) _ mine c.begin.new.self (outside (F.shelf c.args.files.now) (F.faults c.args.files.now) (T.faults c.args.tell.now) (T.loan c.args.tell.now)) c.args.tell.now c.requires.sound b.begins b.kept tt tt b.limit b.progress b.files c.requires.owns in
+    let h = copy_stops (hears T.wanting T.heard) (hears_part T.wanting T.part) (token_at mine.names c.args.token) _ _ _ _ _ d in
+    search (rules, h)
+
+pub copy-returns-in_err-internal-clause-does : goal.copy-returns-in_err-internal-clause-does
+copy-returns-in_err-internal-clause-does g t c =
+    let T = g.T.Teller in
+    let F = g.F.Files in
+    let b = c.in_ok-begin.ensures in
+    let mine = c.args.self.now in
+    let d = begins_did (hears T.wanting T.heard) (hears_part T.wanting T.part) _ mine c.begin.new.self (outside (F.shelf c.args.files.now) (F.faults c.args.files.now) (T.faults c.args.tell.now) (T.loan c.args.tell.now)) c.args.tell.now c.requires.sound b.begins b.kept b.is b.within b.limit b.progress b.files c.requires.owns in
+    let h = copy_unread (hears T.wanting T.heard) (hears_part T.wanting T.part) (token_at mine.names c.args.token) _ _ _ _ _ _ _ _ d c.in_err-internal.ensures.does in
+    search (rules, h)
+
+pub copy-returns-clause-does : goal.copy-returns-clause-does
+copy-returns-clause-does g t c =
+    let T = g.T.Teller in
+    let F = g.F.Files in
+    let b = c.in_ok-begin.ensures in
+    let l = c.in_ok-internal.ensures in
+    let e = c.copied.ensures in
+    let mine = c.args.self.now in
+    let now = c.next_internal.new.self in
+    let new = c.copied.new.self in
+    let d = begins_did (hears T.wanting T.heard) (hears_part T.wanting T.part) _ mine c.begin.new.self (outside (F.shelf c.args.files.now) (F.faults c.args.files.now) (T.faults c.args.tell.now) (T.loan c.args.tell.now)) c.args.tell.now c.requires.sound b.begins b.kept b.is b.within b.limit b.progress b.files c.requires.owns in
+    let names = subst (λ (h : Held). Extends h.names now.names) b.is l.does.progress.names in
+    let u = copied_did (hears T.wanting T.heard) (hears_part T.wanting T.part) (tokens_at new.names) (token_at mine.names c.args.token) _ (internal_at now.names c.in_ok-internal.internal) c.copied.result now new _ _ _ _ _ _ _ _ (token_kept mine.names now.names names c.args.token c.requires.token) e.copies e.stops e.keeps e.limit e.progress e.files l.does.holds.owns in
+    copy_ends (hears T.wanting T.heard) (hears_part T.wanting T.part) (token_at mine.names c.args.token) (internal_at now.names c.in_ok-internal.internal) _ _ _ _ _ _ _ _ _ _ _ d l.does u
+
+pub copy-returns-clause-begins : goal.copy-returns-clause-begins
+copy-returns-clause-begins g t c =
+    let b = c.in_ok-begin.ensures in
+    let e = c.copied.ensures in
+    ended_begun _ _ c.args.self.now c.begin.new.self c.next_internal.new.self c.copied.new.self c.copied.result b.is b.within c.in_ok-internal.ensures.lower e.nesting e.begun e.progress.limit
+
+pub copy-next_internal-requires : goal.copy-next_internal-requires
+copy-next_internal-requires g t c κs within =
+    let b = c.in_ok-begin.ensures in
+    let mine = c.args.self.now in
+    let mid = c.begin.new.self in
+    let kept = begun_kept mine mid b.is b.within c.requires.sound in
+    let owns = owns_same (g.F.Files.shelf c.args.files.now) mine mid c.requires.owns b.files in
+    let nesting = ap (λ (h : Held). h.nesting) b.is in
+    let deep = b.nested in
+    (omega (arith, c.decreases, nesting, deep), (within.0, (within.1, (b.kept, (kept.sound, owns)))))

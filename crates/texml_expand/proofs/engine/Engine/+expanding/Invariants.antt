@@ -5,6 +5,7 @@ use Rattle.texml_expand.specs.Contract.{outside}
 use Rattle.texml_expand.specs.Held.{held_room}
 use Rattle.texml_expand.proofs.Rounds.{Fetching}
 use Rattle.texml_expand.proofs.Looks.{Scanning}
+use Rattle.texml_expand.proofs.Gathered.{Gathers}
 use Rattle.texml_expand.proofs.engine.Engine.+expanding.Given as goal
 
 -- what is left of both depths, and the place of a function among those that call each other
@@ -115,11 +116,33 @@ invariant-scan-tokens g l =
     let T = g.T.Teller in
     let F = g.F.Files in
     record {
-  on : Scanning (hears T.wanting T.heard) (hears_part T.wanting T.part) (machine_rest l.fn.start) l.fn.self (outside (F.shelf l.fn.files) (F.faults l.fn.files) (T.faults l.fn.tell) (T.loan l.fn.tell)) l.fn.tell (machine_rest l.machine) l.scanned l.seen.items l.self (outside (F.shelf l.files) (F.faults l.files) (T.faults l.tell) (T.loan l.tell)) l.tell;
-  begun : l.self.begun ≡ l.begun;
-  same : l.begun ≡ l.initial.self.begun;
-  limit : l.self.limit ≡ l.initial.self.limit;
-}
+      on : Scanning (hears T.wanting T.heard) (hears_part T.wanting T.part) (machine_rest l.fn.start) l.fn.self (outside (F.shelf l.fn.files) (F.faults l.fn.files) (T.faults l.fn.tell) (T.loan l.fn.tell)) l.fn.tell (machine_rest l.machine) l.scanned l.seen.items l.self (outside (F.shelf l.files) (F.faults l.files) (T.faults l.tell) (T.loan l.tell)) l.tell;
+      begun : l.self.begun ≡ l.begun;
+      same : l.begun ≡ l.initial.self.begun;
+      limit : l.self.limit ≡ l.initial.self.limit;
+    }
 
 abbrev pub decreases-scan-tokens : goal.decreases-scan-tokens
 decreases-scan-tokens g l = held_room (g.F.Files.shelf l.files) l.self
+
+abbrev pub invariant-gather-rounds : goal.invariant-gather-rounds
+invariant-gather-rounds g l =
+    let T = g.T.Teller in
+    let F = g.F.Files in
+    Gathers (hears T.wanting T.heard) (hears_part T.wanting T.part) l.fn.gathering l.fn.self (outside (F.shelf l.fn.files) (F.faults l.fn.files) (T.faults l.fn.tell) (T.loan l.fn.tell)) l.fn.tell l.gathered l.self (outside (F.shelf l.files) (F.faults l.files) (T.faults l.tell) (T.loan l.tell)) l.tell
+
+abbrev pub decreases-gather-rounds : goal.decreases-gather-rounds
+decreases-gather-rounds g l = l.self.limit - l.self.begun
+
+abbrev pub invariant-gather-tokens : goal.invariant-gather-tokens
+invariant-gather-tokens g l =
+    let T = g.T.Teller in
+    let F = g.F.Files in
+    record {
+      on : Gathers (hears T.wanting T.heard) (hears_part T.wanting T.part) l.fn.gathering l.fn.self (outside (F.shelf l.fn.files) (F.faults l.fn.files) (T.faults l.fn.tell) (T.loan l.fn.tell)) l.fn.tell l.gathered l.self (outside (F.shelf l.files) (F.faults l.files) (T.faults l.tell) (T.loan l.tell)) l.tell;
+      begun : l.self.begun ≡ l.initial.self.begun;
+      limit : l.self.limit ≡ l.initial.self.limit;
+    }
+
+abbrev pub decreases-gather-tokens : goal.decreases-gather-tokens
+decreases-gather-tokens g l = held_room (g.F.Files.shelf l.files) l.self

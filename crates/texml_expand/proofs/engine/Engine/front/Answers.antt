@@ -4,7 +4,7 @@ use Rattle.texml_expand.specs.Expand.{front_taken}
 use Rattle.texml_expand.specs.Fronts.{front_at}
 use Rattle.texml_expand.specs.Held.{read_at}
 use Rattle.texml_expand.proofs.Fronts.{judged_shrinks}
-use Rattle.texml_expand.proofs.Getting.{gets_then, gets_local, gets_new}
+use Rattle.texml_expand.proofs.Getting.{gets_then, gets_new}
 use Rattle.texml_expand.proofs.engine.Engine.front.Goals as goal
 
 pub returns-in-Some-clause-gets : goal.returns-in-Some-clause-gets

@@ -1,6 +1,6 @@
 use Rattle.std.proofs.Common.{rules, length}
 use Rattle.texml_token.proofs.Translation.{params_more}
-use Rattle.texml_expand.proofs.Called.{arguments_stop, arguments_out, arguments_done}
+use Rattle.texml_expand.proofs.Called.{arguments_stop, arguments_done}
 use Rattle.texml_expand.proofs.engine.Engine.macro_arguments.Goals as goal
 
 pub arguments-requires-clause-shape : goal.arguments-requires-clause-shape

@@ -1,4 +1,4 @@
-use Rattle.std.proofs.Common.{rules, ◌≡◌, [], ◌∷◌, List, true, Some, Ok, Err, subst}
+use Rattle.std.proofs.Common.{rules, [], ◌∷◌, List, true, Some, Ok, Err, subst}
 use Rattle.texml_token.specs.declared.tokens.Token.{Token as TokenCode}
 use Rattle.texml_token.specs.Numbers.{tokens_at}
 use Rattle.texml_match.specs.Arguments.{argument}

@@ -1,4 +1,4 @@
-use Rattle.std.proofs.Common.{Some, Ok, Err, arith}
+use Rattle.std.proofs.Common.{Some, arith}
 use Rattle.texml_expand.specs.Arguments.{behind_spaces, sign_or_back}
 use Rattle.texml_expand.specs.Held.{read_at}
 use Rattle.texml_expand.proofs.Getting.{gets_then, gets_local}
