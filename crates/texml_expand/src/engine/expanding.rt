@@ -172,12 +172,12 @@ impl Engine {
     ///
     /// # Errors
     ///
-    /// `Tex` with fault 25 where 400 expansions are open; and of its arguments with fault 5 at a token before the first that
-    /// doesn't match the parameter text, with fault 2 at a brace that ends a group which hasn't begun, with fault 3 at a
-    /// `\par` that may not stand there, with fault 4 where a text ends before the last is read, and with fault 15 where an
-    /// invalid character stands among them. `Limit` where one expansion too many would begin. `TellFailed`
-    /// only where the count of faults of `tell` rose in this call, `NoMemory` where memory was refused, and the stop that is
-    /// kept.
+    /// `Tex` with fault 25 where 400 expansions are open, or conditionals too deep in skipped text; of arguments with fault 5
+    /// at a token that doesn't match the parameter text, 2 at a brace that ends a group which hasn't begun, and 3 at a `\par`
+    /// that may not stand there; 4 where a text ends too early, 15 at an invalid character, 12 at a word of a conditional that
+    /// isn't open, 13 where something else stands before `\endcsname`, and those of `read_int` and `read_dimen`. `Limit` where
+    /// one expansion too many would begin. `ReadFailed` and `TellFailed` only where the count of faults of `files` or `tell`
+    /// rose in this call, `NoMemory` where memory was refused, and the stop that is kept.
     pub fn expand_once<F: Files, T: Teller>(
         &mut self,
         files: &mut F,
