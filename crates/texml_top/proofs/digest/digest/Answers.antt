@@ -8,7 +8,7 @@ use Rattle.texml_expand.specs.Contract.{outside}
 use Rattle.texml_expand.specs.Hearing.{hears, hears_part}
 use Rattle.texml_assign.specs.Loop.{On}
 use Rattle.texml_assign.proofs.Readings.{plain_give}
-use Rattle.texml_assign.proofs.Doing.{Goes, does_call, goes_start, goes_stops, goes_ends, goes_turn_stops, goes_on, does_local, shrinks_then, shrinks_less}
+use Rattle.texml_assign.proofs.Doing.{Goes, does_call, goes_start, goes_stops, goes_ends, goes_turn_stops, goes_on, does_local, shrinks_on, no_more}
 use Rattle.texml_top.specs.declared.gather.Gathered.{Gathered}
 use Rattle.texml_top.specs.Gather.{nothing_yet, all_of}
 use Rattle.texml_top.specs.Digest.{digestion}
@@ -30,14 +30,14 @@ returns-in_err-token g c = record { does =
 pub returns-in-None : goal.returns-in-None
 returns-in-None g c = record { does =
     let i = c.tokens.invariant in let run = i.going.running in let f = c.in_ok-token.ensures in let mid = c.fetch.new.self in let seen = c.tokens.seen in
-    let s = rw c.in-None.is at (does_call (hears g.T.Teller.wanting g.T.Teller.heard) (hears_part g.T.Teller.wanting g.T.Teller.part) fetch (option_map (token_at mid.names)) _ c.tokens.engine mid _ _ _ _ (f.follows run) (f.stops run) tt (f.keeps run) f.progress f.holds (shrinks_less (f.lower run))) in
+    let s = rw c.in-None.is at (does_call (hears g.T.Teller.wanting g.T.Teller.heard) (hears_part g.T.Teller.wanting g.T.Teller.part) fetch (option_map (token_at mid.names)) _ c.tokens.engine mid _ _ _ _ (f.follows run) (f.stops run) tt (f.keeps run) f.progress f.holds (no_more (f.lower run))) in
     let e = c.end_of.ensures in let r = c.end_of.result in let new = c.end_of.new.engine in
     goes_ends _ _ digestion digestion_laws r nothing_yet seen _ _ mid new _ _ _ _ _ _ _ _ i.going s (does_local _ _ (give (all_of seen)) (plain_give (all_of seen)) r mid new _ _ s.holds.owns e.gives e.kept e.keeps e.advances e.files e.puts) }
 
 pub returns-in_err-digest_turn : goal.returns-in_err-digest_turn
 returns-in_err-digest_turn g c = record { does =
     let i = c.tokens.invariant in let run = i.going.running in let f = c.in_ok-token.ensures in let mid = c.fetch.new.self in let seen = c.tokens.seen in
-    let s = rw c.in-Some.is at (does_call (hears g.T.Teller.wanting g.T.Teller.heard) (hears_part g.T.Teller.wanting g.T.Teller.part) fetch (option_map (token_at mid.names)) _ c.tokens.engine mid _ _ _ _ (f.follows run) (f.stops run) tt (f.keeps run) f.progress f.holds (shrinks_less (f.lower run))) in
+    let s = rw c.in-Some.is at (does_call (hears g.T.Teller.wanting g.T.Teller.heard) (hears_part g.T.Teller.wanting g.T.Teller.part) fetch (option_map (token_at mid.names)) _ c.tokens.engine mid _ _ _ _ (f.follows run) (f.stops run) tt (f.keeps run) f.progress f.holds (no_more (f.lower run))) in
     let t = token_at mid.names c.in-Some.token in
     let h = goes_turn_stops _ _ digestion digestion_laws t _ nothing_yet seen _ _ mid _ _ _ _ _ _ _ _ _ i.going s c.in_err-digest_turn.ensures.does in
     search (rules, h) }
@@ -45,11 +45,11 @@ returns-in_err-digest_turn g c = record { does =
 pub rounds-smaller : goal.rounds-smaller
 rounds-smaller g c =
     let i = c.tokens.invariant in let run = i.going.running in let f = c.in_ok-token.ensures in let mid = c.fetch.new.self in let seen = c.tokens.seen in
-    let s = rw c.in-Some.is at (does_call (hears g.T.Teller.wanting g.T.Teller.heard) (hears_part g.T.Teller.wanting g.T.Teller.part) fetch (option_map (token_at mid.names)) _ c.tokens.engine mid _ _ _ _ (f.follows run) (f.stops run) tt (f.keeps run) f.progress f.holds (shrinks_less (f.lower run))) in
+    let s = rw c.in-Some.is at (does_call (hears g.T.Teller.wanting g.T.Teller.heard) (hears_part g.T.Teller.wanting g.T.Teller.part) fetch (option_map (token_at mid.names)) _ c.tokens.engine mid _ _ _ _ (f.follows run) (f.stops run) tt (f.keeps run) f.progress f.holds (no_more (f.lower run))) in
     let t = token_at mid.names c.in-Some.token in
     let d = c.in_ok-digest_turn.ensures.does in let far = c.digest_turn.new.engine in let more = c.digest_turn.new.seen in
     let l = rw c.in-Some.is at (f.lower run) in let k = d.shrinks in
-    let both = shrinks_then l k in
+    let both = shrinks_on (no_more l) k in
     let ne = c.if-begun.true in let is = c.begun.ensures in let begun = i.begun in let same = i.same in let limit = i.limit in let low = both.begun in let lim = both.limit in
     let w = both.within (omega (arith, ne)) in
     omega (arith, ne)
@@ -57,7 +57,7 @@ rounds-smaller g c =
 pub tokens-smaller : goal.tokens-smaller
 tokens-smaller g c =
     let i = c.tokens.invariant in let run = i.going.running in let f = c.in_ok-token.ensures in let mid = c.fetch.new.self in let seen = c.tokens.seen in
-    let s = rw c.in-Some.is at (does_call (hears g.T.Teller.wanting g.T.Teller.heard) (hears_part g.T.Teller.wanting g.T.Teller.part) fetch (option_map (token_at mid.names)) _ c.tokens.engine mid _ _ _ _ (f.follows run) (f.stops run) tt (f.keeps run) f.progress f.holds (shrinks_less (f.lower run))) in
+    let s = rw c.in-Some.is at (does_call (hears g.T.Teller.wanting g.T.Teller.heard) (hears_part g.T.Teller.wanting g.T.Teller.part) fetch (option_map (token_at mid.names)) _ c.tokens.engine mid _ _ _ _ (f.follows run) (f.stops run) tt (f.keeps run) f.progress f.holds (no_more (f.lower run))) in
     let t = token_at mid.names c.in-Some.token in
     let d = c.in_ok-digest_turn.ensures.does in let far = c.digest_turn.new.engine in let more = c.digest_turn.new.seen in
     let l = rw c.in-Some.is at (f.lower run) in let k = d.shrinks in
@@ -68,7 +68,7 @@ tokens-smaller g c =
 pub rounds-preserved : goal.rounds-preserved
 rounds-preserved g c =
     let i = c.tokens.invariant in let run = i.going.running in let f = c.in_ok-token.ensures in let mid = c.fetch.new.self in let seen = c.tokens.seen in
-    let s = rw c.in-Some.is at (does_call (hears g.T.Teller.wanting g.T.Teller.heard) (hears_part g.T.Teller.wanting g.T.Teller.part) fetch (option_map (token_at mid.names)) _ c.tokens.engine mid _ _ _ _ (f.follows run) (f.stops run) tt (f.keeps run) f.progress f.holds (shrinks_less (f.lower run))) in
+    let s = rw c.in-Some.is at (does_call (hears g.T.Teller.wanting g.T.Teller.heard) (hears_part g.T.Teller.wanting g.T.Teller.part) fetch (option_map (token_at mid.names)) _ c.tokens.engine mid _ _ _ _ (f.follows run) (f.stops run) tt (f.keeps run) f.progress f.holds (no_more (f.lower run))) in
     let t = token_at mid.names c.in-Some.token in
     let d = c.in_ok-digest_turn.ensures.does in let far = c.digest_turn.new.engine in let more = c.digest_turn.new.seen in
     record {
@@ -78,7 +78,7 @@ rounds-preserved g c =
 pub tokens-preserved : goal.tokens-preserved
 tokens-preserved g c =
     let i = c.tokens.invariant in let run = i.going.running in let f = c.in_ok-token.ensures in let mid = c.fetch.new.self in let seen = c.tokens.seen in
-    let s = rw c.in-Some.is at (does_call (hears g.T.Teller.wanting g.T.Teller.heard) (hears_part g.T.Teller.wanting g.T.Teller.part) fetch (option_map (token_at mid.names)) _ c.tokens.engine mid _ _ _ _ (f.follows run) (f.stops run) tt (f.keeps run) f.progress f.holds (shrinks_less (f.lower run))) in
+    let s = rw c.in-Some.is at (does_call (hears g.T.Teller.wanting g.T.Teller.heard) (hears_part g.T.Teller.wanting g.T.Teller.part) fetch (option_map (token_at mid.names)) _ c.tokens.engine mid _ _ _ _ (f.follows run) (f.stops run) tt (f.keeps run) f.progress f.holds (no_more (f.lower run))) in
     let t = token_at mid.names c.in-Some.token in
     let d = c.in_ok-digest_turn.ensures.does in let far = c.digest_turn.new.engine in let more = c.digest_turn.new.seen in
     let l = rw c.in-Some.is at (f.lower run) in let k = d.shrinks in

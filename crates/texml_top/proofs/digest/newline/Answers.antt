@@ -5,7 +5,7 @@ use Rattle.texml_expand.specs.Arguments.{read_optional}
 use Rattle.texml_expand.specs.Hearing.{hears, hears_part}
 use Rattle.texml_assign.specs.NewCommand.{starred}
 use Rattle.texml_assign.proofs.Readings.{lawful_plain, plain_give}
-use Rattle.texml_assign.proofs.Doing.{does_then, does_stop, does_now, does_reads, shrinks_less}
+use Rattle.texml_assign.proofs.Doing.{does_then, does_stop, does_now, does_reads, no_more}
 use Rattle.texml_assign.proofs.NewCommands.{plain_starred, plain_optional}
 use Rattle.texml_top.proofs.Digesting.{break_ops, behind_bracket, plain_behind_bracket, behind_star, plain_behind_star}
 use Rattle.texml_top.proofs.digest.newline.Goals as goal
@@ -34,5 +34,5 @@ returns g c = record { does =
     does_then (hears g.T.Teller.wanting g.T.Teller.heard) (hears_part g.T.Teller.wanting g.T.Teller.part) (λ n. starred) (λ star n. behind_star star) (lawful_plain starred plain_starred) (λ star. lawful_plain (behind_star star) (plain_behind_star star)) star (Ok break_ops) old mid far _ _ _ _ _ _
     (does_reads _ _ starred plain_starred (λ z. z) (Ok star) old mid _ _ _ _ a.tell (a.reads run) (a.stops run) tt (a.keeps run) a.progress a.holds (a.lower run))
     (does_then _ _ (λ n. read_optional) (λ o n. behind_bracket o) (lawful_plain read_optional plain_optional) (λ o. lawful_plain (behind_bracket o) (plain_behind_bracket o)) space (Ok break_ops) mid far far _ _ _ _ _ _
-    (does_reads _ _ read_optional plain_optional (option_map (tokens_at far.names)) (Ok c.in_ok-_space._space) mid far _ _ _ _ o.tell (o.reads going) (o.stops going) tt (o.keeps going) o.progress o.holds (shrinks_less (o.lower going)))
+    (does_reads _ _ read_optional plain_optional (option_map (tokens_at far.names)) (Ok c.in_ok-_space._space) mid far _ _ _ _ o.tell (o.reads going) (o.stops going) tt (o.keeps going) o.progress o.holds (no_more (o.lower going)))
     (does_now _ _ (behind_bracket space) (plain_give break_ops) break_ops far _ _ (o.keeps going).sound o.holds.owns (o.stops going).kept (λ shelf. refl))) }

@@ -1,4 +1,4 @@
-use Rattle.texml_assign.proofs.Doing.{holding_files, files_none}
+use Rattle.texml_expand.proofs.Running.{holding_itself}
 use Rattle.texml_top.proofs.Outcomes.{from_any}
 use Rattle.texml_top.proofs.Ending.{none_written, convert_meets, convert_page, page_late, page_document, page_files, page_limit, convert_stops, silent_page, silent_document, silent_sink, stop_files, stop_limit}
 use Rattle.texml_top.proofs.top.convert.Goals as goal
@@ -25,7 +25,7 @@ pub returns-in-Err-clause-meets : goal.returns-in-Err-clause-meets
 returns-in-Err-clause-meets g c = λ told. from_any _ _ _ (λ all. none_written all.bytes (g.S.Sink.ink c.args.out.now))
 
 pub returns-in-Err-clause-holds : goal.returns-in-Err-clause-holds
-returns-in-Err-clause-holds g c = holding_files _ _ _ c.requires.owns (files_none _)
+returns-in-Err-clause-holds g c = holding_itself _ _ c.requires.owns
 
 pub returns-in-Err-clause-page : goal.returns-in-Err-clause-page
 returns-in-Err-clause-page g c = λ told. from_any _ _ _ (λ all. tt)
