@@ -5,7 +5,6 @@ use Rattle.std.specs.Result.{IfOk}
 use Rattle.std.proofs.lemmas.List.{map-append, length-map, length-take-le, take-map}
 use Rattle.std.proofs.lemmas.List.Elements.{All-take}
 use Rattle.std.proofs.lemmas.Bool.{ne_eqb, eqb-true, eq-eqb}
-use Rattle.std.proofs.lemmas.List.Sums.{sum_by-append, sum_by-cons}
 use Rattle.std.proofs.Math.Seq.{take-append_seam}
 use Rattle.texml_base.specs.Outside.{Shelf}
 use Rattle.texml_token.specs.Token.{Token, has_category, Char}
@@ -21,6 +20,7 @@ use Rattle.texml_expand.specs.Least.{by_least}
 use Rattle.texml_expand.proofs.Least.{choose_yes, choose_no, Decides, by_least_leads}
 use Rattle.texml_expand.specs.State.{State}
 use Rattle.texml_expand.specs.Contract.{Lower}
+use Rattle.texml_expand.proofs.Counting.{count_push}
 use Rattle.texml_expand.proofs.Leading.{Leads, leads_weaker, lower_none, lower_then}
 use Rattle.texml_expand.proofs.Running.{shrinks_less}
 use Rattle.texml_expand.proofs.Fed.{verdict_at, Agrees}
@@ -30,18 +30,14 @@ pub one_open : (n : ℕ) (ends : Bool) → (n ≡ 0 → ends ≡ false) → ends
 one_open zero ends h e = let no = h refl in cc
 one_open (suc n) ends h e = omega arith
 
--- how many of a list with one more at its end
-count_by-push : (p : Token → Bool) (list : List Token) (t : Token) → count_by p (list ++ t ∷ []) ≡ count_by p list + cond (p t) 1 0
-count_by-push p list t = omega (arith, sum_by-append (λ x. cond (p x) 1 0) list (t ∷ []), sum_by-cons (λ x. cond (p x) 1 0) t [])
-
 pub open_none : IsOpen [] 0
 open_none = record { balance = refl }
 
 pub open_behind : (list : List Token) (t : Token) (inner n : ℕ) → n + cond (has_category END_GROUP t) 1 0 ≡ inner + cond (has_category BEGIN_GROUP t) 1 0 → IsOpen list inner → IsOpen (list ++ t ∷ []) n
 open_behind list t inner n e o = record {
   balance =
-      let begins = count_by-push (has_category BEGIN_GROUP) list t in
-      let ends = count_by-push (has_category END_GROUP) list t in
+      let begins = count_push (has_category BEGIN_GROUP) list t in
+      let ends = count_push (has_category END_GROUP) list t in
       let b = o.balance in
       omega arith;
 }
@@ -57,8 +53,8 @@ open_no list inner o = let b = o.balance in ne_eqb (count_by (has_category END_G
 
 closes_yes : (list : List Token) (t : Token) → IsOpen list 0 → has_category END_GROUP t ≡ true → closes (list ++ t ∷ []) ≡ true
 closes_yes list t o e =
-    let begins = count_by-push (has_category BEGIN_GROUP) list t ∙ ap (λ x. count_by (has_category BEGIN_GROUP) list + cond x 1 0) (ends_not_begins t e) in
-    let ends = count_by-push (has_category END_GROUP) list t ∙ ap (λ x. count_by (has_category END_GROUP) list + cond x 1 0) e in
+    let begins = count_push (has_category BEGIN_GROUP) list t ∙ ap (λ x. count_by (has_category BEGIN_GROUP) list + cond x 1 0) (ends_not_begins t e) in
+    let ends = count_push (has_category END_GROUP) list t ∙ ap (λ x. count_by (has_category END_GROUP) list + cond x 1 0) e in
     let b = o.balance in
     eq-eqb (count_by (has_category END_GROUP) (list ++ t ∷ [])) (count_by (has_category BEGIN_GROUP) (list ++ t ∷ []) + 1) (omega arith)
 

@@ -5,7 +5,7 @@
 //! definition gives and tells of exactly the expansions that the definition adds, or stops it for a reason that the contract
 //! names, and a stopped engine answers its stop from then on. That the definitions have one answer in each state is a law
 //! of its own (laws.rt).
-//! It stands on texml_base, texml_fixed, texml_token, texml_match, texml_scope, texml_cond, texml_scan, texml_input and texml_watch.
+//! It stands on texml_base, texml_fixed, texml_token, texml_text, texml_match, texml_scope, texml_cond, texml_scan, texml_input and texml_watch.
 #![tactic(auto)]
 
 mod call;
