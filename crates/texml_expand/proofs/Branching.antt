@@ -1,5 +1,5 @@
 -- Skipped text, and what conditionals and their words do: these decide, and leave less to be read.
-use Rattle.std.proofs.Common.{◌≡◌, ◌==◌, ◌+◌, ◌-◌, ℕ, ℤ, zero, suc, Bool, true, false, nat_le, if◌then◌else◌, List, [], ◌∷◌, length, map, Option, refl, arith}
+use Rattle.std.proofs.Common.{◌==◌, ◌+◌, ◌-◌, ℕ, ℤ, zero, suc, Bool, true, false, nat_le, if◌then◌else◌, List, [], ◌∷◌, length, map, Option}
 use Rattle.texml_token.specs.Token.{Token, Fixed}
 use Rattle.texml_token.specs.declared.fault_code.TheConstants.{FILE_ENDED, EXTRA_COND}
 use Rattle.texml_cond.specs.declared.limits.Bound.{Bound}
@@ -13,17 +13,16 @@ use Rattle.texml_scope.specs.Equality.{meaning_eq}
 use Rattle.texml_expand.specs.declared.conditional.Face.{Face}
 use Rattle.texml_expand.specs.declared.gathering.Gathering.TheVariants.{Relation}
 use Rattle.texml_expand.specs.declared.feeding.Verdict.{Verdict}
-use Rattle.texml_expand.specs.State.{State, room, Reading, chain, IsDecided, give, fail, change}
+use Rattle.texml_expand.specs.State.{State, room, Reading, chain, give, change}
 use Rattle.texml_expand.specs.Take.{means}
 use Rattle.texml_expand.specs.Branches.{Test, If, IfCat, IfX, IfNum, IfDim, IfOdd, IfTrue, IfFalse, IfCase, Sought, End, Met, Ends, Chooses, Forbidden, Passes, Choice, Comes, Skips, meets, choose, choose_case}
-use Rattle.texml_expand.specs.Calls.{Gift, Puts, Calls}
+use Rattle.texml_expand.specs.Calls.{Gift, Puts}
 use Rattle.texml_expand.specs.Quantities.{int_text, dimension_text, needed}
 use Rattle.texml_input.specs.Next.{Taken}
 use Rattle.texml_expand.specs.Expansion.{one_token}
 use Rattle.texml_expand.specs.Conditionals.{open_test, bounded, closed, face, face_now, next_face, two_faces, same_meaning, same_meanings, compares, first_code, number, amount, relation, compared, is_odd, tested, reached, skipped, met_own, met_inner, met_word, seek_past, seek, chosen, none, conditional, to_end, word_comes, word_by, part_end}
 use Rattle.texml_expand.specs.Contract.{Lower}
-use Rattle.texml_expand.proofs.Leading.{Leads, leads_chain, leads_weaker, lower_none, lower_then, lower_less}
-use Rattle.texml_expand.proofs.Deciding.{chain_decided, any}
+use Rattle.texml_expand.proofs.Leading.{leads_weaker, lower_none, lower_less}
 use Rattle.texml_expand.proofs.Least.{Decides, by_least_leads, by_least_decided}
 use Rattle.texml_expand.proofs.Lawful.{By, Lawful, lawful_silent, lawful_give, lawful_fail, lawful_by, lawful_then, lawful_change, lawful_fetch, lawful_scan, lawful_gather}
 use Rattle.texml_expand.proofs.Looking.{lawful_needed}

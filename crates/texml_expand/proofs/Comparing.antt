@@ -1,5 +1,5 @@
 -- An engine that compares two tokens by their meanings.
-use Rattle.std.proofs.Common.{◌≡◌, Bool, None, Some, Result, Ok, Err, refl, sym, ap, ◌∙◌, subst, length}
+use Rattle.std.proofs.Common.{◌≡◌, Bool, Some, Ok, Err, sym, ap, ◌∙◌, length}
 use Rattle.texml_token.specs.Token.{Token}
 use Rattle.texml_token.specs.Numbers.{token_at, TokenWithin}
 use Rattle.texml_token.specs.declared.tokens.Token.{Token as TokenCode}
@@ -7,7 +7,7 @@ use Rattle.texml_token.proofs.Translation.{token_kept}
 use Rattle.texml_scope.specs.Equality.{meaning_eq}
 use Rattle.texml_expand.specs.declared.stop.Stop.{Stop}
 use Rattle.texml_expand.specs.declared.stop.Stop.TheVariants as stop
-use Rattle.texml_expand.specs.State.{State, Reading, chain, nothing, Done, give}
+use Rattle.texml_expand.specs.State.{Reading, chain, nothing, Done, give}
 use Rattle.texml_expand.specs.Take.{means}
 use Rattle.texml_expand.specs.Expansion.{one_token}
 use Rattle.texml_expand.specs.Conditionals.{same_meaning, same_meanings}

@@ -1,9 +1,7 @@
 -- Gathering tokens that are expanded as they come, step by step.
 use Rattle.std.proofs.Common.{◌≡◌, ◌+◌, ℕ, Bool, true, false, List, [], ◌∷◌, ◌++◌, length, length-append, append-nil, None, Some, Result, Ok, Err, refl, sym, ap, ◌∙◌, subst, arith}
-use Rattle.std.specs.Result.{OnOk}
 use Rattle.std.proofs.lemmas.List.{map-append}
 use Rattle.std.proofs.lemmas.List.Elements.{All-append, All-cons, All-nil}
-use Rattle.texml_base.specs.Outside.{Shelf}
 use Rattle.texml_token.specs.Token.{Token}
 use Rattle.texml_token.specs.Numbers.{Table, Extends, token_at, tokens_at, TokenWithin, TokensWithin}
 use Rattle.texml_token.specs.declared.tokens.Token.{Token as TokenCode}
@@ -16,7 +14,7 @@ use Rattle.texml_expand.specs.declared.stop.Stop.TheVariants as stop
 use Rattle.texml_expand.specs.declared.feeding.Verdict.TheVariants.{TooShort, Yields, Refuses}
 use Rattle.texml_expand.specs.declared.gathering.Gathering.{Gathering}
 use Rattle.texml_expand.specs.Calls.{Expandable, Calls}
-use Rattle.texml_expand.specs.State.{State, Answer, Done, Ended, Unfinished, Reading, give, chain, after, nothing}
+use Rattle.texml_expand.specs.State.{State, Answer, Done, Ended, Unfinished, give, chain, after}
 use Rattle.texml_expand.specs.Front.{Front, Nothing, Plain, Expands, front}
 use Rattle.texml_expand.specs.Expand.{level}
 use Rattle.texml_expand.specs.Fronts.{at_once}
@@ -132,8 +130,8 @@ module _ {T : Type 0} (hear part : T → Record → T → Type 0) (k : Gathering
       → Does hear part (λ n. at_once (level n) t x (copies k x)) (Ok (tokens_at new.names list)) mid new m h b c → Gather (seen ++ list) r new z h q c y → Did hear part (gather_front total k (tokens_at now.names seen) (Expands t x) (state_of m.shelf mid)) r mid z m q b y
   gathers_behind t x list r now mid new z m h q b c y seen names within e u =
       let grown : tokens_at new.names (seen ++ list) ≡ tokens_at now.names seen ++ tokens_at new.names list =
-        map-append (token_at new.names) seen list
-        ∙ ap (λ l. l ++ tokens_at new.names list) (tokens_kept mid.names new.names e.keeps.grows seen (within_more now.names mid.names names seen within) ∙ tokens_kept now.names mid.names names seen within) in
+      map-append (token_at new.names) seen list
+      ∙ ap (λ l. l ++ tokens_at new.names list) (tokens_kept mid.names new.names e.keeps.grows seen (within_more now.names mid.names names seen within) ∙ tokens_kept now.names mid.names names seen within) in
       did_as hear part _ _ r mid z m q b y (expansion_parted total k (tokens_at now.names seen) t x (copies k x) (state_of m.shelf mid))
       (did_then hear part (at_once total t x (copies k x) (state_of m.shelf mid)) (λ l. total.gather k (tokens_at now.names seen ++ l)) (tokens_at new.names list) r mid new z m h q b c y
       (did_of hear part (λ c. at_once c t x (copies k x)) (lawful_at_once t x (copies k x)) (Ok (tokens_at new.names list)) mid new m h b c e)

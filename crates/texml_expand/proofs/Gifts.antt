@@ -1,12 +1,12 @@
 -- What an expansion gives, by the tokens that it reads.
-use Rattle.std.proofs.Common.{◌≡◌, ◌+◌, ◌-◌, ◌≤◌, ◌<◌, ℕ, List, Result, Ok, Err, refl, sym, ap, ◌∙◌, subst, arith, inl, inr, eq-or-lt_of_le}
+use Rattle.std.proofs.Common.{◌≡◌, ◌+◌, ◌-◌, ◌≤◌, ℕ, List, Result, Ok, Err, ap, ◌∙◌, arith, inl, inr, eq-or-lt_of_le}
 use Rattle.std.specs.Result.{OnOk}
 use Rattle.texml_base.specs.Outside.{Shelf}
 use Rattle.texml_token.specs.Token.{Token}
 use Rattle.texml_watch.specs.declared.record.Record.{Record}
 use Rattle.texml_expand.specs.declared.stop.Stop.{Stop}
 use Rattle.texml_expand.specs.State.{give}
-use Rattle.texml_expand.specs.Calls.{Gift, Puts}
+use Rattle.texml_expand.specs.Calls.{Puts}
 use Rattle.texml_expand.specs.Expansion.{puts}
 use Rattle.texml_expand.specs.Expand.{level}
 use Rattle.texml_expand.specs.Contract.{Outside}

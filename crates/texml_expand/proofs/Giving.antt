@@ -13,14 +13,14 @@ use Rattle.texml_scope.specs.declared.values.ValueOf.TheVariants.{Means}
 use Rattle.texml_scope.specs.declared.builtins.TheConstants.{RELAX}
 use Rattle.texml_expand.specs.declared.gathering.Gathering.TheVariants.{Name}
 use Rattle.texml_input.specs.Next.{Taken}
-use Rattle.texml_expand.specs.State.{State, room, Reading, chain, give, change}
+use Rattle.texml_expand.specs.State.{State, chain, give, change}
 use Rattle.texml_expand.specs.Take.{take}
 use Rattle.texml_expand.specs.Printed.{printed_tokens}
-use Rattle.texml_expand.specs.Calls.{Gift, Puts, Freezes, Calls}
+use Rattle.texml_expand.specs.Calls.{Gift, Puts, Freezes}
 use Rattle.texml_expand.specs.Quantities.{needed}
 use Rattle.texml_expand.specs.Front.{Front, Nothing, Plain, Expands, front}
 use Rattle.texml_expand.specs.Expansion.{puts, one_token, behind_first, expand_after, no_expand, escape_of, spelled_now, string, job_name, job}
-use Rattle.texml_expand.specs.Names.{text_of, is_undefined, with_name, named, name_of, cs_name}
+use Rattle.texml_expand.specs.Names.{text_of, is_undefined, named, name_of, cs_name}
 use Rattle.texml_expand.specs.Contract.{Lower}
 use Rattle.texml_expand.proofs.Leading.{lower_none}
 use Rattle.texml_expand.proofs.Lawful.{By, Lawful, lawful_give, lawful_fail, lawful_by, lawful_then, lawful_change, lawful_expand, lawful_gather}

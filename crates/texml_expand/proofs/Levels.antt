@@ -15,7 +15,7 @@ use Rattle.texml_expand.specs.Printed.{printed_tokens, roman_text}
 use Rattle.texml_expand.specs.Quantities.{Looked, next_looked, look, put_last, decided_on, without_end, scan_token, scan_next, scan_on, scan_by, next_internal, the}
 use Rattle.texml_expand.specs.Expansion.{string, job}
 use Rattle.texml_expand.specs.Conditionals.{number}
-use Rattle.texml_expand.specs.Gathering.{judged, gather_on, gather_token, copies, gather_expansion, gather_front, gather_by, returned, copied, copy_by}
+use Rattle.texml_expand.specs.Gathering.{judged, gather_on, copies, gather_expansion, gather_front, gather_by, returned, copied, copy_by}
 use Rattle.texml_expand.specs.Expand.{Expandable, Call, ExpandAfter, NoExpand, CsName, String, Number, RomanNumeral, The, JobName, Conditional, PartEnd, Gathering, Seen, Calls, items_of, Front, Nothing, Plain, Expands, front, begin, decimal, roman_numeral, given, finished, finish, expand_by, fetch_front, fetch_by, step, level}
 use Rattle.texml_expand.specs.Calls.{looks}
 use Rattle.texml_expand.specs.Contract.{Lower, Begins}

@@ -5,7 +5,7 @@ use Rattle.texml_token.specs.declared.tokens.Token.{Token as TokenCode}
 use Rattle.texml_token.specs.Numbers.{token_at, tokens_at, TokenWithin, TokensWithin}
 use Rattle.texml_token.proofs.Table.{extends_refl}
 use Rattle.texml_input.specs.Rest.{Tok, items_at}
-use Rattle.texml_input.specs.Held.{Source, Plain, Marked, back_source, ids_of, fences_of, aside_of, rest_at, room_of, SourcesWithin}
+use Rattle.texml_input.specs.Held.{Source, Plain, back_source, aside_of, rest_at, SourcesWithin}
 use Rattle.texml_input.proofs.Sources.{aside_put, ids_put, fences_put, room_put, within_put}
 use Rattle.texml_input.proofs.Standing.{rest_tokens, within_back}
 use Rattle.texml_expand.specs.State.{State}

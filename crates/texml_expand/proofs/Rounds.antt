@@ -1,9 +1,7 @@
 -- Fetching and expanding, step by step.
-use Rattle.std.proofs.Common.{◌≡◌, ◌+◌, ◌-◌, ◌++◌, map, length, ◌≤◌, ◌<◌, ℕ, Bool, List, Option, Some, None, Result, Ok, Err, sym, subst, arith}
+use Rattle.std.proofs.Common.{◌≡◌, ◌+◌, ◌-◌, ◌≤◌, ◌<◌, ℕ, Bool, Option, Some, None, Result, Ok, Err, sym, subst, arith}
 use Rattle.std.specs.Result.{OnOk}
 use Rattle.texml_token.specs.Token.{Token}
-use Rattle.texml_token.specs.declared.tokens.Token.{Token as TokenCode}
-use Rattle.texml_token.specs.Numbers.{tokens_at, TokensWithin}
 use Rattle.texml_watch.specs.declared.record.Record.{Record}
 use Rattle.texml_expand.specs.declared.stop.Stop.{Stop}
 use Rattle.texml_base.specs.Outside.{Shelf}
@@ -16,7 +14,7 @@ use Rattle.texml_expand.specs.Quantities.{Looked, read_index, next_looked}
 use Rattle.texml_expand.specs.Expand.{Front, Nothing, Plain, Expands, front, begin, given, finish, expand_by, fetch_front, level}
 use Rattle.texml_expand.specs.declared.engine.expanding.Front.{Front as FrontCode}
 use Rattle.texml_expand.specs.Fronts.{front_at, gift_at}
-use Rattle.texml_expand.specs.Held.{Held, state_of, Sound, Kept, Progress, IsAtLimit, Owns, Holding, SameFiles, Shrinks, Begun}
+use Rattle.texml_expand.specs.Held.{Held, state_of, Sound, Kept, Progress, IsAtLimit, Owns, SameFiles, Shrinks, Begun}
 use Rattle.texml_expand.specs.Contract.{Local, Outside, outside, files_at, Stops, stop_after}
 use Rattle.texml_expand.specs.Hearing.{Meets}
 use Rattle.texml_expand.specs.Doing.{Does, Gets}
@@ -25,7 +23,7 @@ use Rattle.texml_expand.proofs.Lawful.{lawful_fetch, lawful_expand}
 use Rattle.texml_expand.proofs.Total.{total, fetch_is, expand_is}
 use Rattle.texml_expand.proofs.Levels.{lawful_given}
 use Rattle.texml_expand.proofs.Doing.{Did, does_of, did_of, did_as, did_then, did_stop, did_silent, did_gets, did_now}
-use Rattle.texml_expand.proofs.Fronts.{begun_kept, finished_kept}
+use Rattle.texml_expand.proofs.Fronts.{begun_kept}
 
 -- less is left to read
 pub begun_smaller : (j : ℕ) (a b : Shelf) (old mid new : Held) → Shrinks j a old b mid → Begun mid new → new.limit - new.begun < old.limit - old.begun

@@ -8,16 +8,15 @@ use Rattle.texml_cond.specs.declared.limits.Word.{Word}
 use Rattle.texml_cond.specs.declared.limits.Word.TheVariants as words
 use Rattle.texml_expand.specs.declared.stop.Stop.{Stop}
 use Rattle.texml_expand.specs.declared.stop.Stop.TheVariants as stop
-use Rattle.texml_expand.specs.State.{State, Tex, Limit, nothing, Done, Ended, fault_at, Reading, change}
+use Rattle.texml_expand.specs.State.{State, Tex, Limit, nothing, Done, change}
 use Rattle.texml_expand.specs.Branches.{Sought, Ends, Chooses, Forbidden, Passes, meets}
-use Rattle.texml_expand.specs.Conditionals.{bounded, closed, skipped, seek}
+use Rattle.texml_expand.specs.Conditionals.{skipped, seek}
 use Rattle.texml_expand.specs.Contract.{Outside, Quiet, IsFaultAt}
 use Rattle.texml_expand.specs.Held.{Held, place_of, state_of, Sound, Kept, Owns, Shrinks}
 use Rattle.texml_expand.specs.Doing.{Gets, Runs}
 use Rattle.texml_expand.specs.Fronts.{inner_passed}
 use Rattle.texml_expand.proofs.Getting.{gets_by}
 use Rattle.texml_expand.proofs.Taking.{quiet_fault}
-use Rattle.texml_expand.proofs.Progress.{progress_itself}
 use Rattle.texml_expand.proofs.Running.{told_on, shrinks_none, shrinks_then, runs_then, runs_now, runs_stop, runs_fault, runs_local, gets_runs}
 use Rattle.texml_expand.proofs.Seeks.{seek_stops, seek_ends, seek_chooses, seek_forbids, seek_passes, seek_inner, passed}
 

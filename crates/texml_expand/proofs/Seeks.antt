@@ -1,5 +1,5 @@
 -- Text that is skipped up to what is sought for a conditional, word by word.
-use Rattle.std.proofs.Common.{◌≡◌, ◌+◌, ◌-◌, ◌≤◌, ◌<◌, ℕ, zero, suc, Bool, true, false, nat_le, if◌then◌else◌, List, [], ◌∷◌, length, map, refl, sym, ap, ◌∙◌, arith}
+use Rattle.std.proofs.Common.{◌≡◌, ◌+◌, ◌≤◌, ℕ, zero, suc, Bool, true, false, nat_le, if◌then◌else◌, List, [], ◌∷◌, length, map, refl, sym, ap, ◌∙◌, arith}
 use Rattle.texml_token.specs.Token.{Token}
 use Rattle.texml_token.specs.declared.fault_code.TheConstants.{FILE_ENDED, EXTRA_COND}
 use Rattle.texml_cond.specs.declared.limits.Bound.{Bound}
@@ -9,7 +9,7 @@ use Rattle.texml_cond.specs.Skipping.{skip}
 use Rattle.texml_input.specs.Rest.{Item, Tok, Frozen, Text, item_size, size}
 use Rattle.texml_input.specs.Next.{next}
 use Rattle.texml_input.specs.Codes.{cats_of, end_of}
-use Rattle.texml_expand.specs.State.{State, End, Tex, room, nothing, Answer, Done, Ended, Unfinished, Reading, fault_at, after, chain, change}
+use Rattle.texml_expand.specs.State.{State, End, Tex, room, nothing, Answer, Done, Ended, Unfinished, Reading, fault_at, after, chain}
 use Rattle.texml_expand.specs.Take.{take_given, means}
 use Rattle.texml_expand.specs.Least.{inside, inner_token}
 use Rattle.texml_expand.specs.Branches.{Sought, Met, Ends, Chooses, Forbidden, Passes, meets}

@@ -12,7 +12,7 @@ use Rattle.texml_expand.specs.Variables.{Internal}
 use Rattle.texml_expand.specs.Quantities.{Looked, expanded, next_looked, internal, internal_now, next_internal, shown, the}
 use Rattle.texml_expand.specs.Expand.{level}
 use Rattle.texml_expand.specs.Contract.{Outside, IsFaultAt}
-use Rattle.texml_expand.specs.Held.{Held, place_of, world_in, state_of}
+use Rattle.texml_expand.specs.Held.{Held, place_of, world_in}
 use Rattle.texml_expand.specs.Doing.{Does}
 use Rattle.texml_expand.proofs.Lawful.{lawful_give}
 use Rattle.texml_expand.proofs.Looking.{lawful_expanded, lawful_needed, lawful_internal_now, internal_behind, lawful_internal_behind, lawful_next_internal}

@@ -1,7 +1,6 @@
 -- An engine that skips text.
-use Rattle.std.proofs.Common.{◌≡◌, ◌+◌, ℕ, IsTrue, List, [], ◌∷◌, ◌++◌, None, Some, Result, Ok, Err, refl, sym, ap, ◌∙◌, subst, arith}
-use Rattle.texml_token.specs.Token.{Token}
-use Rattle.texml_token.specs.Numbers.{token_at, TokenWithin}
+use Rattle.std.proofs.Common.{◌≡◌, ℕ, IsTrue, List, [], ◌∷◌, ◌++◌, None, Some, Result, Ok, Err, refl, sym, ap, ◌∙◌, subst, arith}
+use Rattle.texml_token.specs.Numbers.{token_at}
 use Rattle.texml_token.specs.declared.tokens.Token.{Token as TokenCode}
 use Rattle.texml_token.specs.declared.fault_code.TheConstants.{DEPTH}
 use Rattle.texml_scope.specs.Numbers.{meaning_at}
@@ -11,14 +10,14 @@ use Rattle.texml_cond.specs.Skipping.{MeaningCode, part_of, skip, Fed}
 use Rattle.texml_cond.proofs.Texts.{part_says}
 use Rattle.texml_expand.specs.declared.stop.Stop.{Stop}
 use Rattle.texml_expand.specs.declared.stop.Stop.TheVariants as stop
-use Rattle.texml_expand.specs.State.{Tex, Limit, nothing, Done, Ended, fault_at, State}
+use Rattle.texml_expand.specs.State.{Tex, Limit, State}
 use Rattle.texml_expand.specs.Take.{means}
 use Rattle.texml_expand.specs.Least.{inner_token}
 use Rattle.texml_expand.specs.Contract.{Outside, Quiet, IsFaultAt}
 use Rattle.texml_expand.specs.Held.{Held, place_of, world_in, state_of, Sound, Owns, Shrinks}
 use Rattle.texml_expand.specs.Doing.{Gets, Runs}
 use Rattle.texml_expand.specs.Conditionals.{skipped}
-use Rattle.texml_expand.proofs.Getting.{gets_by, gets_then}
+use Rattle.texml_expand.proofs.Getting.{gets_by}
 use Rattle.texml_expand.proofs.Taking.{quiet_fault}
 use Rattle.texml_expand.proofs.Running.{told_on, shrinks_none, shrinks_then, runs_then, runs_now, runs_stop, runs_fault, runs_out, gets_runs}
 use Rattle.texml_expand.proofs.Skips.{Skips, skips_none, skips_stop, skips_more, skips_reach, skips_deep}

@@ -1,5 +1,5 @@
 -- Skipped text, token by token.
-use Rattle.std.proofs.Common.{◌≡◌, ◌+◌, ◌==◌, ◌≤◌, ◌<◌, ℕ, zero, suc, Bool, true, false, cond, if◌then◌else◌, fold, count_by, List, [], ◌∷◌, ◌++◌, append_assoc, append-nil, length, map, Option, Some, None, refl, sym, ap, ap₂, ◌∙◌, subst, arith}
+use Rattle.std.proofs.Common.{◌≡◌, ◌+◌, ◌==◌, ◌≤◌, Bool, true, false, if◌then◌else◌, count_by, List, [], ◌∷◌, ◌++◌, append_assoc, append-nil, length, map, Option, Some, None, refl, sym, ap, ap₂, ◌∙◌, arith}
 use Rattle.std.proofs.lemmas.List.{map-append}
 use Rattle.std.proofs.lemmas.List.Folds.{fold-map}
 use Rattle.texml_token.specs.Token.{Token}
@@ -12,17 +12,16 @@ use Rattle.texml_cond.specs.declared.skipping.Part.TheVariants.{Begins, Stops, P
 use Rattle.texml_cond.specs.declared.skipping.SkipStep.{SkipStep}
 use Rattle.texml_cond.specs.declared.skipping.SkipStep.TheVariants.{More, Reached, TooDeep}
 use Rattle.texml_cond.specs.declared.skipping.TheConstants.{DEEPEST}
-use Rattle.texml_cond.specs.Skipping.{MeaningCode, part_of, is_begin, is_end, begun, ended, decided_by, or_later, skip_behind, skip, Fed}
+use Rattle.texml_cond.specs.Skipping.{MeaningCode, part_of, is_begin, is_end, begun, ended, decided_by, or_later, skip_behind, skip}
 use Rattle.texml_expand.specs.declared.feeding.Verdict.{Verdict}
 use Rattle.texml_expand.specs.declared.feeding.Verdict.TheVariants.{TooShort, Yields, Refuses}
 use Rattle.texml_input.specs.Next.{Taken, Given, Got, AtEnd, Invalid, NotUtf8, next}
 use Rattle.texml_input.specs.Codes.{cats_of, end_of}
-use Rattle.texml_expand.specs.State.{State, End, Tex, room, nothing, Answer, Done, Ended, Unfinished, fault_at, after}
+use Rattle.texml_expand.specs.State.{State, End, Tex, room, nothing, Done, Ended, fault_at}
 use Rattle.texml_expand.specs.Take.{take_given, take, means}
 use Rattle.texml_expand.specs.Least.{inside_if, inside, inner_token, decides, by_least}
 use Rattle.texml_expand.specs.Conditionals.{reached, skipped}
 use Rattle.texml_expand.proofs.Leading.{Leads, leads_chain, leads_weaker, leads_at}
-use Rattle.texml_expand.proofs.Least.{Takes}
 use Rattle.texml_expand.proofs.Stepping.{behind_one, by_least_on, by_least_now, by_least_cut, Decided, by_least_takes}
 
 -- Skipping goes by what tokens do in it alone

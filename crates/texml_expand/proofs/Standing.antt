@@ -54,6 +54,5 @@ taken_decided (Some x) s = frozen_decided x.frozen x (meaning_of s.world x.token
 pub front_decided : (s : State) → IsDecided (front s)
 front_decided s = chain_decided (λ v t. Unit {0}) (take s) front_taken (take_decided s) (any (take s)) (λ o t _. taken_decided o t)
 
-
 pub lawful_front : Lawful (λ c. front)
 lawful_front = lawful_silent front front_decided (λ s. leads_weaker (FrontLeads s) (λ f t. Lower 0 s t) (front s) (λ f t. lower_less (front_count f) s t) (front_leads s))

@@ -3,7 +3,7 @@ use Rattle.std.proofs.Common.{◌≡◌, ◌+◌, ◌≤◌, ◌<◌, ℕ, zero,
 use Rattle.texml_token.specs.Token.{Token}
 use Rattle.texml_expand.specs.declared.feeding.Verdict.{Verdict}
 use Rattle.texml_expand.specs.declared.feeding.Verdict.TheVariants.{TooShort, Yields, Refuses}
-use Rattle.texml_expand.specs.State.{State, End, Gains, room, nothing, Answer, Done, Ended, Unfinished, Reading, ◌⊕◌, after, chain, give}
+use Rattle.texml_expand.specs.State.{State, End, Gains, room, nothing, Answer, Done, Ended, Unfinished, after, chain, give}
 use Rattle.texml_expand.specs.Least.{inner_token, next_tokens, least, decides, decided, is_enough, by_tokens, by_least}
 use Rattle.texml_expand.proofs.Leading.{Leads, leads_chain, leads_at}
 use Rattle.texml_expand.proofs.Least.{Takes, Took, inner_takes, next_took, one_more, least_is, least_holds, enough_past, by_least_at, by_least_ends}

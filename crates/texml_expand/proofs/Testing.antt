@@ -1,5 +1,5 @@
 -- What tests and conditionals do, by the calls in them.
-use Rattle.std.proofs.Common.{◌≡◌, ◌==◌, ℕ, ℤ, Bool, true, false, List, [], Option, None, Some, Result, Ok, Err, refl, sym, subst}
+use Rattle.std.proofs.Common.{◌≡◌, ℕ, ℤ, Bool, true, List, [], None, Some, Result, Ok, Err, refl, sym, subst}
 use Rattle.texml_token.specs.Token.{Token}
 use Rattle.texml_token.specs.declared.fault_code.TheConstants.{FILE_ENDED}
 use Rattle.texml_watch.specs.declared.record.Record.{Record}
@@ -10,13 +10,13 @@ use Rattle.texml_expand.specs.declared.conditional.Face.{Face}
 use Rattle.texml_expand.specs.declared.gathering.Gathering.TheVariants.{Relation}
 use Rattle.texml_input.specs.Next.{Taken}
 use Rattle.texml_expand.specs.State.{State, chain, give}
-use Rattle.texml_expand.specs.Branches.{Test, Choice, choose}
+use Rattle.texml_expand.specs.Branches.{Test, Choice}
 use Rattle.texml_expand.specs.Calls.{Gift}
 use Rattle.texml_expand.specs.Quantities.{dimension_text}
 use Rattle.texml_expand.specs.Expand.{level}
 use Rattle.texml_expand.specs.Conditionals.{open_test, face, face_now, next_face, two_faces, compares, first_code, amount, relation, compared, tested, chosen, none, conditional}
 use Rattle.texml_expand.specs.Contract.{Outside, IsFaultAt}
-use Rattle.texml_expand.specs.Held.{Held, place_of, world_in, state_of}
+use Rattle.texml_expand.specs.Held.{Held, place_of, world_in}
 use Rattle.texml_expand.specs.Doing.{Does}
 use Rattle.texml_expand.proofs.Lawful.{By, Lawful, lawful_give, lawful_fetch, lawful_scan, lawful_gather}
 use Rattle.texml_expand.proofs.Looking.{lawful_needed}

@@ -1,12 +1,12 @@
 -- An expansion begins, and ends with what it gives.
-use Rattle.std.specs.Prelude.{ℕ, ◌+◌, ◌-◌, nat_le, if◌then◌else◌, List, [], ◌++◌, encode_utf8_all}
+use Rattle.std.specs.Prelude.{◌+◌, ◌-◌, nat_le, if◌then◌else◌, List, [], ◌++◌, encode_utf8_all}
 use Rattle.texml_token.specs.Token.{Token}
 use Rattle.texml_token.specs.declared.fault_code.TheConstants.{DEPTH}
 use Rattle.texml_token.specs.Spelling.{shown as shown_text}
 use Rattle.texml_watch.specs.declared.record.Record.{Record}
 use Rattle.texml_expand.specs.declared.engine.expanding.TheConstants.{DEEPEST}
 use Rattle.texml_input.specs.Rest.{Item}
-use Rattle.texml_expand.specs.State.{State, Tex, Limit, fault_at, nothing, Done, Ended, Reading, ◌>>=◌, ◌>>◌, change, tell}
+use Rattle.texml_expand.specs.State.{State, Tex, Limit, fault_at, nothing, Done, Ended, Reading, ◌>>◌, change, tell}
 use Rattle.texml_expand.specs.Take.{spelling}
 use Rattle.texml_expand.specs.Calls.{Gift, items_of, tokens_of}
 

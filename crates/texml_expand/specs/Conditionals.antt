@@ -1,5 +1,5 @@
 -- Conditionals, as they are expanded (The TeXbook, chapter 20).
-use Rattle.std.specs.Prelude.{ℕ, ℤ, zero, suc, ◌+◌, ◌-◌, ◌==◌, ◌%◌, nat_le, Bool, true, false, List, [], ◌∷◌, ◌++◌, length, map, take as first, slice_set, unsigned_abs, if◌then◌else◌, Option, Some, None}
+use Rattle.std.specs.Prelude.{ℕ, ℤ, zero, suc, ◌+◌, ◌-◌, ◌==◌, ◌%◌, nat_le, Bool, true, false, List, [], ◌∷◌, ◌++◌, length, map, take as first, slice_set, unsigned_abs, if◌then◌else◌}
 use Rattle.std.specs.Int.Signed.{lt_z}
 use Rattle.std.specs.Ordering.{int_eq}
 use Rattle.texml_token.specs.Token.{Token, Char, Active, Fixed}

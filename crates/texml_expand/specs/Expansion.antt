@@ -9,7 +9,7 @@ use Rattle.texml_token.specs.Spelling.{spelled}
 use Rattle.texml_scope.specs.declared.values.KeyOf.TheVariants.{EscapeChar}
 use Rattle.texml_scope.specs.Values.{number_in}
 use Rattle.texml_scope.specs.Texts.{World}
-use Rattle.texml_expand.specs.State.{State, Reading, ◌>>=◌, ◌>>◌, give, fail}
+use Rattle.texml_expand.specs.State.{Reading, ◌>>=◌, ◌>>◌, give, fail}
 use Rattle.texml_expand.specs.Take.{take}
 use Rattle.texml_expand.specs.Printed.{printed_tokens}
 use Rattle.texml_expand.specs.Calls.{Gift, Puts, Freezes, Calls}

@@ -1,5 +1,5 @@
 -- Tokens that are gathered, expanded as they come (The TeXbook, chapter 20).
-use Rattle.std.specs.Prelude.{ℕ, Bool, true, false, ◌==◌, ◌||◌, List, [], ◌∷◌, ◌++◌, map, flat_map, if◌then◌else◌}
+use Rattle.std.specs.Prelude.{Bool, true, false, ◌==◌, ◌||◌, List, [], ◌∷◌, ◌++◌, map, flat_map, if◌then◌else◌}
 use Rattle.texml_token.specs.Token.{Token, Char, has_category}
 use Rattle.texml_token.specs.declared.category.TheConstants.{PARAMETER}
 use Rattle.texml_token.specs.declared.fault_code.TheConstants.{FILE_ENDED, MISSING_NUMBER, MISSING_ENDCSNAME}
@@ -15,7 +15,7 @@ use Rattle.texml_expand.specs.State.{Reading, ◌>>=◌, ◌>>◌, give, fail}
 use Rattle.texml_expand.specs.Take.{means}
 use Rattle.texml_expand.specs.Arguments.{is_space, is_sign}
 use Rattle.texml_expand.specs.Braces.{absorbed}
-use Rattle.texml_expand.specs.Variables.{Internal, Number, Dimension, Glue, Tokens}
+use Rattle.texml_expand.specs.Variables.{Internal, Tokens}
 use Rattle.texml_expand.specs.Calls.{Expandable, The, Gathering, Calls}
 use Rattle.texml_expand.specs.Front.{Front, Nothing, Plain, Expands, front}
 use Rattle.texml_expand.specs.Quantities.{counts_as, next_internal, shown}

@@ -58,6 +58,7 @@ pub(crate) struct Face {
 
 // A code and a category that no character has.
 pub(crate) const NO_CODE: u32 = 0x110000;
+
 pub(crate) const NO_CATEGORY: u8 = 16;
 
 // The test that the builtin of a place begins, if it begins one.

@@ -36,10 +36,10 @@ use crate::stop::Stop;
 use crate::variables::{Index, index_of, key_of, variable_at};
 use std::alloc::AllocError;
 use texml_base::{Files, Trouble};
-use texml_input::Read;
-use texml_fixed::Scaled;
-use texml_scan::{DimenScan, Held, IntScan, Look, looked_at};
 use texml_cond::Word;
+use texml_fixed::Scaled;
+use texml_input::Read;
+use texml_scan::{DimenScan, Held, IntScan, Look, looked_at};
 use texml_scope::builtins::{
     CSNAME, ELSE, EXPANDAFTER, FI, JOBNAME, NOEXPAND, NUMBER, OR, ROMANNUMERAL, STRING, THE,
 };
@@ -434,7 +434,12 @@ impl Engine {
     }
 
     // Tells of an expansion, where that is wanted.
-    pub(super) fn tell_of<T: Teller>(&mut self, tell: &mut T, token: Token, list: &Tokens) -> Result<(), Stop>
+    pub(super) fn tell_of<T: Teller>(
+        &mut self,
+        tell: &mut T,
+        token: Token,
+        list: &Tokens,
+    ) -> Result<(), Stop>
         requires running { self.old.stop ≡ None }
         requires token { TokenWithin (length self.old.names) token }
         requires list { TokensWithin (length self.old.names) list.now }

@@ -33,7 +33,9 @@ use texml_watch::Teller;
 
 // The codes of the relations between numbers: <, = and >.
 const LESS: u32 = 60;
+
 const EQUAL: u32 = 61;
+
 const GREATER: u32 = 62;
 
 impl Engine {

@@ -9,11 +9,10 @@ use Rattle.texml_expand.specs.Held.{Held, state_of, ok_at, read_at}
 use Rattle.texml_expand.specs.Fronts.{macro_at, expandable_at, looked_at, ExpandableWithin}
 use Rattle.texml_expand.specs.declared.variables.Index.TheVariants.{Character, Register}
 use Rattle.texml_expand.specs.State.{give}
-use Rattle.texml_expand.specs.Calls.{Call}
 use Rattle.texml_expand.specs.Printed.{printed_tokens, roman_text}
 use Rattle.texml_expand.specs.Variables.{a_character, a_register, key_of, index_of, Number, value_of}
 use Rattle.texml_expand.specs.Quantities.{int_text, read_index, look, read_key, internal_of, internal, as_itself, shown}
-use Rattle.texml_expand.specs.Expand.{front, given, level}
+use Rattle.texml_expand.specs.Expand.{front, level}
 use Rattle.texml_expand.specs.Hearing.{hears, hears_part}
 use Rattle.texml_expand.proofs.Lawful.{lawful_give, lawful_scan, lawful_fetch}
 use Rattle.texml_expand.proofs.Looking.{lawful_character, lawful_register, value, lawful_value, lawful_index, lawful_look, lawful_key, lawful_internal_of, lawful_internal, counts, lawful_counts, lawful_take}
@@ -1214,7 +1213,7 @@ expand_after-returns-in_err-expand-in-Expands-clause-does g t c =
     let d = does_gets (hears T.wanting T.heard) (hears_part T.wanting T.part) (λ c'. one_token) lawful_one_token _ c.args.self.now mid _ _ _ _ (T.faults tell) (T.loan tell) tell c.in_ok-first.ensures.gets in
     let k = does_gets (hears T.wanting T.heard) (hears_part T.wanting T.part) (λ c'. front) lawful_front (Ok (fronts.Expands second x)) mid now _ _ _ _ (T.faults tell) (T.loan tell) tell (rw c.in-Expands.is at c.in_ok-front.ensures.gets) in
     let h = after_first (hears T.wanting T.heard) (hears_part T.wanting T.part) first _ _ _ _ _ _ _ _ _ _ d
-        (second_is (hears T.wanting T.heard) (hears_part T.wanting T.part) first (fronts.Expands second x) _ _ _ _ _ _ _ _ _ _ k (behind_stops (hears T.wanting T.heard) (hears_part T.wanting T.part) first second x _ _ _ _ _ _ _ c.in_err-expand-in-Expands.ensures.does)) in
+    (second_is (hears T.wanting T.heard) (hears_part T.wanting T.part) first (fronts.Expands second x) _ _ _ _ _ _ _ _ _ _ k (behind_stops (hears T.wanting T.heard) (hears_part T.wanting T.part) first second x _ _ _ _ _ _ _ c.in_err-expand-in-Expands.ensures.does)) in
     search (rules, h)
 
 pub expand_after-returns-in_ok-expand-in-Expands-clause-does : goal.expand_after-returns-in_ok-expand-in-Expands-clause-does

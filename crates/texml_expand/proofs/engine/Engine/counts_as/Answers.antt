@@ -1,4 +1,4 @@
-use Rattle.std.proofs.Common.{true, false, sym, ap, ◌∙◌, if◌then◌else◌}
+use Rattle.std.proofs.Common.{sym, ap, ◌∙◌, if◌then◌else◌}
 use Rattle.texml_token.specs.Numbers.{token_at}
 use Rattle.texml_expand.specs.Take.{meaning_of}
 use Rattle.texml_expand.specs.Quantities.{frozen_as}

@@ -1,4 +1,4 @@
-use Rattle.std.proofs.Common.{FitsSigned, w32, sym, ap, ◌∙◌, rules}
+use Rattle.std.proofs.Common.{FitsSigned, w32, ap, ◌∙◌, rules}
 use Rattle.std.proofs.lemmas.Int.{to_z-of_z}
 use Rattle.texml_scope.specs.declared.values.KeyOf.TheVariants.{EscapeChar}
 use Rattle.texml_scope.specs.Shown.{world_of}

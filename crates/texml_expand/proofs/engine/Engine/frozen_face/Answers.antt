@@ -1,11 +1,8 @@
-use Rattle.std.proofs.Common.{◌≡◌, sym, ap, ◌∙◌, subst, refl}
-use Rattle.texml_token.specs.Numbers.{Table, token_at}
-use Rattle.texml_token.specs.declared.tokens.Token.{Token as TokenCode}
-use Rattle.texml_token.specs.declared.tokens.Token.TheVariants as tokens
-use Rattle.texml_scope.specs.Texts.{World}
-use Rattle.texml_expand.specs.Take.{meaning_of, means}
+use Rattle.std.proofs.Common.{sym, ap, ◌∙◌}
+use Rattle.texml_token.specs.Numbers.{token_at}
+use Rattle.texml_expand.specs.Take.{means}
 use Rattle.texml_expand.specs.Quantities.{frozen_as}
-use Rattle.texml_expand.specs.Conditionals.{face_of, frozen_face}
+use Rattle.texml_expand.specs.Conditionals.{face_of}
 use Rattle.texml_expand.specs.Held.{world_in}
 use Rattle.texml_expand.proofs.Judging.{frozen_at}
 use Rattle.texml_expand.proofs.Faces.{frozen_other}

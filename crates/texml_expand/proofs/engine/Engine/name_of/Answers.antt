@@ -3,7 +3,7 @@ use Rattle.texml_token.specs.Numbers.{Extends, text_at}
 use Rattle.texml_scope.specs.Shown.{world_of}
 use Rattle.texml_scope.specs.Numbers.{world_at}
 use Rattle.texml_expand.specs.Names.{with_name}
-use Rattle.texml_expand.specs.Held.{Held, world_in, Sound}
+use Rattle.texml_expand.specs.Held.{Held, Sound}
 use Rattle.texml_expand.proofs.Named.{grown_sound, grown_world, name_alone, where_ok}
 use Rattle.texml_expand.proofs.engine.Engine.name_of.Goals as goal
 

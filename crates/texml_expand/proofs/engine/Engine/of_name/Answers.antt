@@ -1,5 +1,5 @@
 use Rattle.std.proofs.Common.{true, false, sym, ap, ◌∙◌, rules}
-use Rattle.texml_token.specs.Numbers.{token_at, tokens_at, TokensWithin}
+use Rattle.texml_token.specs.Numbers.{tokens_at}
 use Rattle.texml_expand.specs.Held.{world_in, read_at}
 use Rattle.texml_expand.specs.Quantities.{counts_as}
 use Rattle.texml_expand.specs.declared.feeding.Verdict.TheVariants.{Yields}

@@ -1,7 +1,7 @@
 use Rattle.std.proofs.Common.{rules, arith, ◌≤◌, ◌<◌, ◌+◌, length, sym, ap, ◌∙◌}
 use Rattle.std.proofs.lemmas.Bool.{lt-leb, le-leb}
 use Rattle.texml_expand.specs.Held.{Held}
-use Rattle.texml_expand.proofs.Seeking.{seeking_none, seeking_stops, seeking_inner, seeking_passes, seeking_lower, seeking_ends, seeking_chooses, seeking_forbids}
+use Rattle.texml_expand.proofs.Seeking.{seeking_none, seeking_stops, seeking_inner, seeking_passes, seeking_ends, seeking_chooses, seeking_forbids}
 use Rattle.texml_expand.proofs.engine.Engine.seek.Goals as goal
 
 pub words-init : goal.words-init

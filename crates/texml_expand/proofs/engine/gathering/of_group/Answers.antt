@@ -1,7 +1,5 @@
 use Rattle.texml_expand.proofs.Gatherer.{group_closed, group_goes_on}
-use Rattle.std.proofs.Common.{sym, ap, ◌∙◌, rules}
-use Rattle.texml_token.specs.Numbers.{tokens_at}
-use Rattle.texml_expand.specs.declared.feeding.Verdict.TheVariants.{Yields}
+use Rattle.std.proofs.Common.{sym, ◌∙◌, rules}
 use Rattle.texml_expand.proofs.engine.gathering.of_group.Goals as goal
 
 pub returns-then-branch-clause-is : goal.returns-then-branch-clause-is

@@ -1,9 +1,8 @@
-use Rattle.std.proofs.Common.{[], sym, ap, subst, ◌∙◌}
+use Rattle.std.proofs.Common.{sym, ap, subst, ◌∙◌}
 use Rattle.texml_token.specs.Numbers.{tokens_at}
-use Rattle.texml_expand.specs.Quantities.{shown}
 use Rattle.texml_expand.specs.Gathering.{kept_of}
 use Rattle.texml_expand.specs.VariableCodes.{internal_at, InternalWithin}
-use Rattle.texml_expand.proofs.Gatherer.{ok_on, quantity_back, quantity_kept, parts_taken, parts_returned}
+use Rattle.texml_expand.proofs.Gatherer.{ok_on, quantity_back, quantity_kept, parts_returned}
 use Rattle.texml_expand.proofs.engine.gathering.parts_of.Goals as goal
 
 pub returns-in-Tokens-clause-kept : goal.returns-in-Tokens-clause-kept

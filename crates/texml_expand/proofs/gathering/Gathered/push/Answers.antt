@@ -1,4 +1,4 @@
-use Rattle.std.proofs.Common.{◌≡◌, [], ◌∷◌, ◌++◌, sym, subst}
+use Rattle.std.proofs.Common.{◌≡◌, sym, subst}
 use Rattle.std.specs.List.{count_by}
 use Rattle.texml_token.specs.Token.{has_category}
 use Rattle.texml_token.specs.Numbers.{tokens_at}
