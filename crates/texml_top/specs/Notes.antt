@@ -39,18 +39,18 @@ abbrev pub numbered : ℕ → List ℕ → List ℕ
 numbered code name = decimal code ++ spaced name
 
 abbrev pub placed : List ℕ → ℕ → List ℕ
-placed file line = file ++ codes ":" ++ decimal line
+placed file line = file ++ (codes ":" ++ decimal line)
 
 abbrev pub usage_note : List ℕ
 usage_note = codes "usage: texml convert FILE [--binding FILE] [--limit N] [--watch LIST] | expand FILE [--binding FILE] [--limit N] | self N\n"
 
 -- where a fault of the text is, its number, its name, and what it is about
 abbrev pub fault_note : Fault → List ℕ
-fault_note f = placed f.file f.line ++ codes ": fault " ++ numbered f.code (fault_name f.code) ++ last_word f.about
+fault_note f = placed f.file f.line ++ (codes ": fault " ++ (numbered f.code (fault_name f.code) ++ last_word f.about))
 
 -- the number of what isn't allowed, its name, the element or attribute, and the element that it stands in
 abbrev pub model_note : ModelFault → List ℕ
-model_note f = codes "model fault " ++ numbered f.code (model_fault_name f.code) ++ spaced f.child ++ last_word f.parent
+model_note f = codes "model fault " ++ (numbered f.code (model_fault_name f.code) ++ (spaced f.child ++ last_word f.parent))
 
 abbrev pub limit_note : ℕ → List ℕ
 limit_note limit = codes "limit " ++ decimal limit ++ codes " reached\n"

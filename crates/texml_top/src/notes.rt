@@ -10,7 +10,8 @@ use texml_base::{Sink, SinkFail};
 use texml_token::{Fault, fault_code};
 use texml_tree::{ModelFault, model_fault};
 
-const USAGE: &[u8] = b"usage: texml convert FILE [--binding FILE] [--limit N] [--watch LIST] | expand FILE [--binding FILE] [--limit N] | self N\n";
+const USAGE: &[u8] =
+    b"usage: texml convert FILE [--binding FILE] [--limit N] [--watch LIST] | expand FILE [--binding FILE] [--limit N] | self N\n";
 
 /// Notes how a run ended: a line for each status but `Done`. A write that fails ends it, and a first part of the line is
 /// written then. It takes no memory.

@@ -1,7 +1,7 @@
 use Rattle.std.proofs.Common.{rules, [], ◌∷◌}
 use Rattle.texml_top.specs.Notes.{spaced}
 use Rattle.texml_base.proofs.Taking.{takes_then}
-use Rattle.texml_top.proofs.Noting.{cut_first, cut_then}
+use Rattle.texml_top.proofs.Noting.{cut_first}
 use Rattle.texml_top.proofs.notes.write_last.Goals as goal
 
 pub returns-in_err-write_word-clause-written : goal.returns-in_err-write_word-clause-written

@@ -1,6 +1,6 @@
 use Rattle.std.proofs.Common.{rules, [], ◌∷◌}
 use Rattle.texml_base.proofs.Taking.{takes_then}
-use Rattle.texml_top.proofs.Noting.{cut_first, cut_then}
+use Rattle.texml_top.proofs.Noting.{cut_first}
 use Rattle.texml_top.proofs.notes.write_space.Goals as goal
 
 pub returns-in_err-write-clause-written : goal.returns-in_err-write-clause-written
