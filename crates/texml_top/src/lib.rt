@@ -21,7 +21,7 @@ mod top;
 mod verb;
 
 pub use laws::{gathering_keeps_the_document, one_outcome};
-pub use notes::note;
+pub use notes::noted;
 pub use status::Status;
 pub use top::run;
 

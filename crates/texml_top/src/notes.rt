@@ -13,12 +13,14 @@ use texml_tree::{ModelFault, model_fault};
 const USAGE: &[u8] =
     b"usage: texml convert FILE [--binding FILE] [--limit N] [--watch LIST] | expand FILE [--binding FILE] [--limit N] | self N\n";
 
-/// Notes how a run ended: a line for each status but `Done`. A write that fails ends it, and a first part of the line is
+/// Notes how a run ended, and answers that: a line for each status but `Done`. A write that fails ends the line, of which a first part is
 /// written then. It takes no memory.
-pub fn note<N: Sink>(notes: &mut N, status: &Status)
-    ensures { Noted (note_of status.now) (N.ink notes.old) (N.ink notes.new) (N.faults notes.old) (N.faults notes.new) }
+pub fn noted<N: Sink>(notes: &mut N, status: Status) -> Status
+    ensures is { result ≡ status }
+    ensures notes { Noted (note_of status) (N.ink notes.old) (N.ink notes.new) (N.faults notes.old) (N.faults notes.new) }
 {
-    let _ended = note_status(notes, status);
+    let _ended = note_status(notes, &status);
+    status
 }
 
 // Writes the line of a status.
