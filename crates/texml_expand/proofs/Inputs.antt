@@ -8,7 +8,7 @@ use Rattle.texml_token.specs.declared.fault_code.TheConstants.{INVALID_CHAR, NOT
 use Rattle.texml_scope.specs.Shown.{world_of}
 use Rattle.texml_input.specs.Next.{next}
 use Rattle.texml_input.specs.Codes.{cats_of, end_of}
-use Rattle.texml_input.specs.Held.{Held as HeldInput, fences_of, rest_at, aside_of, SourcesWithin}
+use Rattle.texml_input.specs.Held.{Held as HeldInput, rest_at, aside_of, SourcesWithin}
 use Rattle.texml_input.specs.Keeping.{Holds}
 use Rattle.texml_input.specs.Answers.{given_at, IsNext}
 use Rattle.texml_input.specs.declared.fault.Read.{Read}
@@ -28,13 +28,13 @@ use Rattle.texml_expand.proofs.Progress.{progress_then, progress_stopped}
 use Rattle.texml_expand.proofs.Running.{holding_then, holding_same, files_stopped}
 use Rattle.texml_expand.proofs.Getting.{gets_by}
 
-module _ (h : Held) (names : Table) (input : HeldInput) (a b : Shelf) (reads reads' : ℕ) (owns : Owns a h) (sound : Sound h) (holds : Holds a b h.input.sources input.sources) (fences : fences_of input.sources ≡ fences_of h.input.sources)
+module _ (h : Held) (names : Table) (input : HeldInput) (a b : Shelf) (reads reads' : ℕ) (owns : Owns a h) (sound : Sound h) (holds : Holds a b h.input.sources input.sources)
     (grows : Extends h.names names) where
   abbrev mid : Held
   mid = record h { names = names; input = input }
 
   mid_holds : Holding a b h mid
-  mid_holds = record { owns = record { held = holds.held; all = holds.exact owns.all }; tells = holds.tells; contents = holds.contents; fences = fences }
+  mid_holds = record { owns = record { held = holds.held; all = holds.exact owns.all }; tells = holds.tells; contents = holds.contents }
 
   mid_progress : Progress h mid
   mid_progress = record { names = grows; begun = omega arith; limit = refl; writes = omega arith }
