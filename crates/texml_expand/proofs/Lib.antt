@@ -61,3 +61,5 @@ pub mod Placing
 pub mod Running
 pub mod Getting
 pub mod Inputs
+pub mod Apart
+pub mod Opening

@@ -82,11 +82,17 @@ abbrev pub name_by : Calls → Bool → Reading (List ℕ)
 name_by calls true = name_argument calls
 name_by calls false = plain_name calls
 
+-- the next token behind spaces, which stays
+abbrev pub peeked : Reading (Option Taken)
+peeked = do
+  t ← behind_spaces
+  change (returned t)
+  give t
+
 -- behind spaces a brace begins an argument
 abbrev pub file_name : Calls → Reading (List ℕ)
 file_name calls = do
-  t ← behind_spaces
-  change (returned t)
+  t ← peeked
   name_by calls (begins_group t)
 
 -- Files

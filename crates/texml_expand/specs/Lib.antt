@@ -4,6 +4,7 @@ pub mod Least
 pub mod Arguments
 pub mod Branches
 pub mod Calls
+pub mod Include
 pub mod Front
 pub mod Begin
 pub mod Braces

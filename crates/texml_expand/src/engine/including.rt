@@ -1,16 +1,15 @@
 //! Files that are put before what is to be read.
 
-ghost use Rattle.std.specs.Prelude.{◌≡◌, ◌≤◌, ◌<◌, ◌-◌, ◌+◌, ◌∷◌, [], ℕ, None, Some, length, IfOk, OnOk, string_bytes};
-ghost use Rattle.texml_base.specs.Outside.{Shelf};
-ghost use Rattle.texml_token.specs.Numbers.{Table, token_at, tokens_at, TokenWithin, TokensWithin};
+ghost use Rattle.std.specs.Prelude.{◌≡◌, ◌≤◌, ◌<◌, ◌-◌, ◌+◌, ◌∷◌, ◌++◌, [], ℕ, None, Some, Ok, length, map, IfOk, OnOk, OnErr, option_map, option_to_list, string_bytes};
+ghost use Rattle.texml_token.specs.Numbers.{Table, token_at, tokens_at, TokenWithin, TokensWithin, OptionWithin};
 ghost use Rattle.texml_token.specs.declared.fault_code.TheConstants.{MISSING_FILE};
-ghost use Rattle.texml_input.specs.Held.{Fence};
-ghost use Rattle.texml_expand.specs.State.{◌>>=◌, change};
-ghost use Rattle.texml_expand.specs.Arguments.{behind_spaces as spec_behind_spaces};
-ghost use Rattle.texml_expand.specs.Include.{alone as spec_alone, argument_alone as spec_argument_alone, taken_up, all_left as spec_all_left, is_char as spec_is_char, bytes_of, characters as spec_characters, name_argument as spec_name_argument, plain_name as spec_plain_name, returned, begins_group as spec_begins_group, file_name as spec_file_name, opened as spec_opened, include as spec_include, text_ended};
+ghost use Rattle.texml_input.specs.Held.{Plain, Fence};
+ghost use Rattle.texml_expand.specs.State.{◌>>=◌, give, change};
+ghost use Rattle.texml_expand.specs.Include.{alone as spec_alone, argument_alone as spec_argument_alone, all_left as spec_all_left, is_char as spec_is_char, bytes_of, characters as spec_characters, peeked as spec_peeked, name_argument as spec_name_argument, plain_name as spec_plain_name, returned, begins_group as spec_begins_group, file_name as spec_file_name, opened as spec_opened, include as spec_include, end_input as spec_end_input};
 ghost use Rattle.texml_expand.specs.Begin.{finish as spec_finish};
 ghost use Rattle.texml_expand.specs.Expand.{level};
-ghost use Rattle.texml_expand.specs.Held.{state_of, place_of, Sound, Kept, Progress, IsAtLimit, ok_at, read_at, ReadWithin, Owns, SameFiles, Shrinks, Begun, Puts};
+ghost use Rattle.texml_expand.specs.Fronts.{gift_at, GiftWithin};
+ghost use Rattle.texml_expand.specs.Held.{place_of, Sound, Kept, Progress, IsAtLimit, ok_at, read_at, ReadWithin, Owns, SameFiles, Shrinks, Puts, Passes};
 ghost use Rattle.texml_expand.specs.Contract.{Local, IsFaultAt, outside, files_at, stop_after};
 ghost use Rattle.texml_expand.specs.Hearing.{hears, hears_part};
 ghost use Rattle.texml_expand.specs.Doing.{Does, Gets};
@@ -66,13 +65,25 @@ impl Engine {
             (λ n. spec_file_name (level n)) (ok_at string_bytes result) self.old self.new (outside (F.shelf files.old) (F.faults files.old) (T.faults tell.old) (T.loan tell.old)) (outside (F.shelf files.new) (F.faults files.new) (T.faults tell.new) (T.loan tell.new)) tell.old tell.new }
         ensures lower { OnOk result (Shrinks 0 (F.shelf files.old) self.old (F.shelf files.new) self.new) }
     {
-        let read = self.behind_spaces(files)?;
-        self.put_read(read)?;
+        let read = self.peek(files)?;
         if begins_group(read) {
             self.name_argument(files, tell, deep)
         } else {
             self.plain_name(files, tell, deep)
         }
+    }
+
+    // The next token behind spaces, which stays.
+    fn peek<F: Files>(&mut self, files: &mut F) -> Result<Option<Read>, Stop>
+        requires running { self.old.stop ≡ None }
+        requires sound { Sound self.old }
+        requires owns { Owns (F.shelf files.old) self.old }
+        ensures gets { Gets spec_peeked (ok_at (option_map (read_at self.new.names)) result) self.old self.new (files_at (F.shelf files.old) (F.faults files.old)) (files_at (F.shelf files.new) (F.faults files.new)) }
+        ensures lower { OnOk result (Shrinks 0 (F.shelf files.old) self.old (F.shelf files.new) self.new) }
+    {
+        let read = self.behind_spaces(files)?;
+        self.put_read(read)?;
+        Ok(read)
     }
 
     // A token that was taken goes back as it was.
@@ -154,7 +165,7 @@ impl Engine {
         requires running { self.old.stop ≡ None }
         requires sound { Sound self.old }
         requires list { TokensWithin (length self.old.names) list.now }
-        ensures apart { Local (change (alone (tokens_at self.old.names list.now))) result self.old self.new }
+        ensures apart { Local (change (spec_alone (tokens_at self.old.names list.now))) result self.old self.new }
         ensures kept { self.new.stop ≡ stop_after result }
         ensures progress { Progress self.old self.new }
         ensures limit { IsAtLimit result self.new }
