@@ -15,6 +15,7 @@ pub mod Looking
 pub mod Standing
 pub mod Giving
 pub mod Branching
+pub mod Including
 pub mod Levels
 pub mod Settle
 pub mod Total

@@ -15,6 +15,7 @@ pub mod Expansion
 pub mod Conditionals
 pub mod Names
 pub mod Gathering
+pub mod Include
 pub mod Expand
 pub mod Absorb
 pub mod Held

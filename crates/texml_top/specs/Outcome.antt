@@ -1,5 +1,5 @@
 -- What a run answers and writes.
-use Rattle.std.specs.Prelude.{◌≡◌, ℕ, List, [], ◌∷◌, unwrap_or, Result, Ok, Err, None}
+use Rattle.std.specs.Prelude.{◌≡◌, ℕ, false, List, [], ◌∷◌, unwrap_or, Result, Ok, Err, None}
 use Rattle.std.specs.declared.option.Option.{Option}
 use Rattle.std.specs.Option.{option_map, ok_or}
 use Rattle.texml_token.specs.declared.fault_code.TheConstants.{MISSING_FILE}
@@ -54,6 +54,7 @@ first_state contents file limit text = record {
   begun = 0;
   limit = limit;
   nesting = 0;
+  absorbing = false;
   place = before file;
   conditionals = [];
   job = file;
