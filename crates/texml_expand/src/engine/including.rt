@@ -13,7 +13,7 @@ ghost use Rattle.texml_expand.specs.Fronts.{gift_at, GiftWithin};
 ghost use Rattle.texml_expand.specs.Held.{place_of, Sound, Kept, Progress, IsAtLimit, ok_at, read_at, ReadWithin, Owns, SameFiles, Shrinks, Puts, Passes};
 ghost use Rattle.texml_expand.specs.Contract.{Local, IsFaultAt, outside, files_at, stop_after};
 ghost use Rattle.texml_expand.specs.Hearing.{hears, hears_part};
-ghost use Rattle.texml_expand.specs.Doing.{Does, Gets};
+ghost use Rattle.texml_expand.specs.Doing.{Does, Gets, Tells};
 
 use super::Engine;
 use super::expanding::Gift;
@@ -29,31 +29,9 @@ use texml_watch::Teller;
 const MOST_FILES: usize = 100;
 
 impl Engine {
-    // An expansion of `\input` that has begun: the text of a file is put before what is to be read, and it is told.
-    #[cycle(expanding)]
-    pub(super) fn include<F: Files, T: Teller>(
-        &mut self,
-        files: &mut F,
-        tell: &mut T,
-        token: Token,
-        deep: usize,
-    ) -> Result<(), Stop>
-        requires running { self.old.stop ≡ None }
-        requires sound { Sound self.old }
-        requires owns { Owns (F.shelf files.old) self.old }
-        requires nested { 1 ≤ self.old.nesting }
-        requires token { TokenWithin (length self.old.names) token }
-        ensures does { Does (hears T.wanting T.heard) (hears_part T.wanting T.part)
-            (λ n. spec_include (level n) >>= spec_finish (token_at self.old.names token)) (result) self.old self.new (outside (F.shelf files.old) (F.faults files.old) (T.faults tell.old) (T.loan tell.old)) (outside (F.shelf files.new) (F.faults files.new) (T.faults tell.new) (T.loan tell.new)) tell.old tell.new }
-        ensures passes { OnOk result (Passes 1 self.old self.new) }
-    {
-        let name = self.file_name(files, tell, deep)?;
-        self.open(files, tell, token, &name)
-    }
-
     // The name of a file: behind spaces a brace begins an argument, and else it goes up to a space or another token that is no character.
     #[cycle(expanding)]
-    fn file_name<F: Files, T: Teller>(
+    pub(super) fn file_name<F: Files, T: Teller>(
         &mut self,
         files: &mut F,
         tell: &mut T,
@@ -251,7 +229,7 @@ impl Engine {
     }
 
     // Opens the file that a name means, puts its text before what is to be read, and ends the expansion, which is told.
-    fn open<F: Files, T: Teller>(
+    pub(super) fn open<F: Files, T: Teller>(
         &mut self,
         files: &mut F,
         tell: &mut T,
@@ -263,8 +241,8 @@ impl Engine {
         requires owns { Owns (F.shelf files.old) self.old }
         requires nested { 1 ≤ self.old.nesting }
         requires token { TokenWithin (length self.old.names) token }
-        ensures does { Does (hears T.wanting T.heard) (hears_part T.wanting T.part)
-            (λ n. spec_opened name.now >>= spec_finish (token_at self.old.names token)) (result) self.old self.new (outside (F.shelf files.old) (F.faults files.old) (T.faults tell.old) (T.loan tell.old)) (outside (F.shelf files.new) (F.faults files.new) (T.faults tell.new) (T.loan tell.new)) tell.old tell.new }
+        ensures tells { Tells (hears T.wanting T.heard) (hears_part T.wanting T.part)
+            (spec_opened name.now >>= spec_finish (token_at self.old.names token)) result self.old self.new (outside (F.shelf files.old) (F.faults files.old) (T.faults tell.old) (T.loan tell.old)) (outside (F.shelf files.new) (F.faults files.new) (T.faults tell.new) (T.loan tell.new)) tell.old tell.new }
         ensures passes { OnOk result (Passes 1 self.old self.new) }
     {
         if self.input.files_open() >= MOST_FILES {
