@@ -20,14 +20,14 @@ use Rattle.texml_input.proofs.Standing.{held_opened, rest_opened, aside_opened}
 use Rattle.texml_expand.specs.declared.engine.including.TheConstants.{MOST_FILES}
 use Rattle.texml_expand.specs.declared.stop.Stop.{Stop}
 use Rattle.texml_expand.specs.declared.stop.Stop.TheVariants as stop
-use Rattle.texml_expand.specs.State.{State, Tex, nothing, Answer, Done, Ended, Reading, ◌>>=◌, IsDecided, tell, fault_at}
+use Rattle.texml_expand.specs.State.{State, Tex, nothing, Ended, Reading, ◌>>=◌, tell, fault_at}
 use Rattle.texml_expand.specs.Calls.{Gift, Opens}
 use Rattle.texml_expand.specs.Begin.{finish, finished, record_of}
 use Rattle.texml_expand.specs.Include.{texts, open_texts, whole_text, found, opened}
 use Rattle.texml_expand.specs.Contract.{Outside, outside, Stops, IsFaultAt}
 use Rattle.texml_expand.specs.Hearing.{Meets}
 use Rattle.texml_expand.specs.Held.{Held, place_of, state_of, Sound, Kept, Progress, IsAtLimit, Owns, Holding, SameFiles, Passes}
-use Rattle.texml_expand.specs.Doing.{Does, Runs}
+use Rattle.texml_expand.specs.Doing.{Tells}
 use Rattle.texml_expand.proofs.Doing.{Did, did_by, did_fault, did_out}
 use Rattle.texml_expand.proofs.Fronts.{kept_itself}
 use Rattle.texml_expand.proofs.Meeting.{meets_silent, meets_quiet, part_untold}
@@ -51,19 +51,8 @@ module _ (name : List ℕ) (t : Token) where
   abbrev pub opening : Reading (Unit {0})
   opening = opened name >>= finish t
 
-  decided_found : (o : Option (List ℕ)) (s : State) → IsDecided ((found name o >>= finish t) s)
-  decided_found None s = tt
-  decided_found (Some there) s = tt
-
   abbrev answer : Bool → Option (List ℕ) → Reading (Unit {0})
   answer b o = (λ s. if b then Ended (Tex (fault_at DEPTH [] s.place)) nothing else found name o s) >>= finish t
-
-  decided_answer : (b : Bool) (o : Option (List ℕ)) (s : State) → IsDecided (answer b o s)
-  decided_answer true o s = tt
-  decided_answer false o s = decided_found o s
-
-  pub opening_decided : (s : State) → IsDecided (opening s)
-  opening_decided s = decided_answer (nat_le MOST_FILES (open_texts s)) (first_there s.contents (names_tried name)) s
 
   pub opening_full : (s : State) → nat_le MOST_FILES (open_texts s) ≡ true → opening s ≡ Ended (Tex (fault_at DEPTH [] s.place)) nothing
   opening_full s full = ap (λ b. answer b (first_there s.contents (names_tried name)) s) full
@@ -140,26 +129,15 @@ module _ (before now : Shelf) (h : Held) (there : List ℕ) (id : ℕ) (owns : O
 
 module _ {T : Type 0} (hear part : T → Record → T → Type 0) (name : List ℕ) (t : Token) where
   abbrev Opening : Result (Unit {0}) Stop → Held → Held → Outside → Outside → T → T → Type 0
-  Opening r old new f g a b = Does hear part (λ n. opening name t) r old new f g a b
+  Opening r old new f g a b = Tells hear part (opening name t) r old new f g a b
 
-  does_now : (r : Result (Unit {0}) Stop) (old new : Held) (f g : Outside) (a b : T) → Did hear part (opening name t (state_of f.shelf old)) r old new f g a b → Opening r old new f g a b
-  does_now r old new f g a b d = record {
-    follows = λ told. record {
-      answer = opening name t (state_of f.shelf old);
-      given = record { depth = 0; is = refl; decided = opening_decided name t (state_of f.shelf old) };
-      meets = d.meets told;
-    };
-    stops = d.stops;
-    limit = d.limit;
-    keeps = d.keeps;
-    progress = d.progress;
-    holds = d.holds;
-  }
+  tells_of : (r : Result (Unit {0}) Stop) (old new : Held) (f g : Outside) (a b : T) → Did hear part (opening name t (state_of f.shelf old)) r old new f g a b → Opening r old new f g a b
+  tells_of r old new f g a b d = record { meets = d.meets; stops = d.stops; limit = d.limit; keeps = d.keeps; progress = d.progress; holds = d.holds }
 
   -- too many are open
-  pub does_full : (e : Stop) (h new : Held) (f : Outside) (a : T) → nat_le MOST_FILES (open_texts (state_of f.shelf h)) ≡ true → IsFaultAt DEPTH [] (place_of h) e → new ≡ record h { stop = Some e } → Owns f.shelf h → Opening (Err e) h new f f a a
-  does_full e h new f a full fault is owns =
-      does_now (Err e) h new f f a a (did_fault hear part (opening name t (state_of f.shelf h)) DEPTH [] e h new f a (opening_full name t (state_of f.shelf h) full) fault is owns)
+  pub tells_full : (e : Stop) (h new : Held) (f : Outside) (a : T) → nat_le MOST_FILES (open_texts (state_of f.shelf h)) ≡ true → IsFaultAt DEPTH [] (place_of h) e → new ≡ record h { stop = Some e } → Owns f.shelf h → Opening (Err e) h new f f a a
+  tells_full e h new f a full fault is owns =
+      tells_of (Err e) h new f f a a (did_fault hear part (opening name t (state_of f.shelf h)) DEPTH [] e h new f a (opening_full name t (state_of f.shelf h) full) fault is owns)
 
   module _ (h new : Held) (before now : Shelf) (reads reads' tells loan : ℕ) (a : T) (owns : Owns before h) (same : now ≡ before) where
     abbrev f : Outside
@@ -173,11 +151,11 @@ module _ {T : Type 0} (hear part : T → Record → T → Type 0) (name : List �
     unopened r count d = subst (λ shelf. As shelf reads' r) (sym same) (subst (λ n. As before n r) (sym count) d)
 
     -- there is no such file
-    pub does_missing : (e : Stop) → reads' ≡ reads → nat_le MOST_FILES (open_texts (state_of before h)) ≡ false → (IsTrue before.tells → first_there before.contents (names_tried name) ≡ None) → IsFaultAt MISSING_FILE name (place_of h) e
+    pub tells_missing : (e : Stop) → reads' ≡ reads → nat_le MOST_FILES (open_texts (state_of before h)) ≡ false → (IsTrue before.tells → first_there before.contents (names_tried name) ≡ None) → IsFaultAt MISSING_FILE name (place_of h) e
         → new ≡ record h { stop = Some e } → As now reads' (Err e)
-    does_missing e count few none fault is =
+    tells_missing e count few none fault is =
         unopened (Err e) count
-        (does_now (Err e) h new f f a a
+        (tells_of (Err e) h new f f a a
         (did_by hear part (opening name t (state_of before h)) (Err e) h new f f a a
         (λ told.
         meets_silent hear part (opening name t (state_of before h)) (Err e) (state_of before new) a
@@ -185,10 +163,10 @@ module _ {T : Type 0} (hear part : T → Record → T → Type 0) (name : List �
         (runs_fault MISSING_FILE name e h new f fault is owns)))
 
     -- files failed
-    pub does_unread : Rose reads reads' → new ≡ record h { stop = Some stop.ReadFailed } → As now reads' (Err stop.ReadFailed)
-    does_unread rose is =
+    pub tells_unread : Rose reads reads' → new ≡ record h { stop = Some stop.ReadFailed } → As now reads' (Err stop.ReadFailed)
+    tells_unread rose is =
         subst (λ shelf. As shelf reads' (Err stop.ReadFailed)) (sym same)
-        (does_now (Err stop.ReadFailed) h new f (outside before reads' tells loan) a a
+        (tells_of (Err stop.ReadFailed) h new f (outside before reads' tells loan) a a
         (did_by hear part (opening name t (state_of before h)) (Err stop.ReadFailed) h new f (outside before reads' tells loan) a a
         (λ told. meets_quiet hear part (opening name t (state_of before h)) (Err stop.ReadFailed) (state_of before new) a tt)
         (record {
@@ -200,8 +178,8 @@ module _ {T : Type 0} (hear part : T → Record → T → Type 0) (name : List �
         })))
 
     -- memory was refused
-    pub does_short : (e : Stop) → reads' ≡ reads → e ≡ stop.NoMemory → new ≡ record h { stop = Some stop.NoMemory } → As now reads' (Err e)
-    does_short e count short is = unopened (Err e) count (does_now (Err e) h new f f a a (did_out hear part (opening name t (state_of before h)) e h new f a short is owns))
+    pub tells_short : (e : Stop) → reads' ≡ reads → e ≡ stop.NoMemory → new ≡ record h { stop = Some stop.NoMemory } → As now reads' (Err e)
+    tells_short e count short is = unopened (Err e) count (tells_of (Err e) h new f f a a (did_out hear part (opening name t (state_of before h)) e h new f a short is owns))
 
   -- a file was opened, and closed again
   module _ (before mid now : Shelf) (there : List ℕ) (id : ℕ) (o : IsOpened before mid there id) (c : IsClosed mid now id) where
@@ -215,13 +193,13 @@ module _ {T : Type 0} (hear part : T → Record → T → Type 0) (name : List �
       contents = c.contents ∙ o.contents;
     }
 
-    pub does_refused : (e : Stop) (h new : Held) (reads reads' tells loan : ℕ) (a : T) → Owns before h → reads' ≡ reads → e ≡ stop.NoMemory → new ≡ record h { stop = Some stop.NoMemory }
+    pub tells_refused : (e : Stop) (h new : Held) (reads reads' tells loan : ℕ) (a : T) → Owns before h → reads' ≡ reads → e ≡ stop.NoMemory → new ≡ record h { stop = Some stop.NoMemory }
         → Opening (Err e) h new (outside before reads tells loan) (outside now reads' tells loan) a a
-    does_refused e h new reads reads' tells loan a owns count short is =
+    tells_refused e h new reads reads' tells loan a owns count short is =
         let f = outside before reads tells loan in
         let g = outside now reads' tells loan in
         subst (λ (s : Stop). Opening (Err s) h new f g a a) (sym short)
-        (does_now (Err stop.NoMemory) h new f g a a
+        (tells_of (Err stop.NoMemory) h new f g a a
         (did_by hear part (opening name t (state_of before h)) (Err stop.NoMemory) h new f g a a (λ told. part_untold hear part (opening name t (state_of before h)) a)
         (record {
           stops = record { kept = ap (λ (h : Held). h.stop) is; reads = count; tells = refl; loan = refl };
@@ -241,15 +219,15 @@ module _ {T : Type 0} (hear part : T → Record → T → Type 0) (name : List �
     stops_told r reads reads' tells tells' loan loan' k count s =
         let s' = subst (λ n. Stops r (outside now reads tells loan) (outside now n tells' loan') k) (sym count) s in record { kept = s'.kept; reads = s'.reads; tells = s'.tells; loan = s'.loan }
 
-    pub does_opened : (r : Result (Unit {0}) Stop) (new : Held) (reads reads' tells tells' loan loan' : ℕ) (a b : T) → nat_le MOST_FILES (open_texts (state_of before h)) ≡ false
+    pub tells_opened : (r : Result (Unit {0}) Stop) (new : Held) (reads reads' tells tells' loan loan' : ℕ) (a b : T) → nat_le MOST_FILES (open_texts (state_of before h)) ≡ false
         → (IsTrue before.tells → first_there before.contents (names_tried name) ≡ Some there) → Sound h → reads' ≡ reads
         → ((shelf : Shelf) → Meets hear part (tell (record_of t [] there) (state_of shelf mid)) r (state_of shelf new) a b)
         → ((shelf : Shelf) (faults : ℕ) → Stops r (outside shelf faults tells loan) (outside shelf faults tells' loan') new.stop) → OnOk r (new ≡ mid) → Progress mid new → IsAtLimit r new → SameFiles mid new
         → Opening r h new (outside before reads tells loan) (outside now reads' tells' loan') a b
-    does_opened r new reads reads' tells tells' loan loan' a b few is sound count told stops same progress limit files =
+    tells_opened r new reads reads' tells tells' loan loan' a b few is sound count told stops same progress limit files =
         let f = outside before reads tells loan in
         let g = outside now reads' tells' loan' in
-        does_now r h new f g a b
+        tells_of r h new f g a b
         (did_by hear part (opening name t (state_of before h)) r h new f g a b
         (λ shown.
         let e = opening_found name t (state_of before h) there few (is shown) ∙ ap (tell (record_of t [] there)) (sym (state_opened before now h there id owns o shown)) in

@@ -1,6 +1,7 @@
 //! Files that are put before what is to be read.
 
 ghost use Rattle.std.specs.Prelude.{◌≡◌, ◌≤◌, ◌<◌, ◌-◌, ◌+◌, ◌∷◌, ◌++◌, [], ℕ, None, Some, Ok, length, map, IfOk, OnOk, OnErr, option_map, option_to_list, string_bytes};
+ghost use Rattle.std.specs.List.{list_all};
 ghost use Rattle.texml_token.specs.Numbers.{Table, token_at, tokens_at, TokenWithin, TokensWithin, OptionWithin};
 ghost use Rattle.texml_token.specs.declared.fault_code.TheConstants.{MISSING_FILE};
 ghost use Rattle.texml_input.specs.Held.{Plain, Fence};
@@ -201,7 +202,7 @@ impl Engine {
         ensures keeps { OnOk result (Kept self.old self.new) }
         ensures same { OnOk result (self.new ≡ self.old) }
     {
-        if list.iter().all(|token| is_char(*token)) {
+        if are_chars(list) {
             self.text(list)
         } else {
             Err(self.bare_fault(fault_code::MISSING_ENDCSNAME))
@@ -306,6 +307,13 @@ fn is_char(token: Token) -> bool
     }
 }
 
+// Whether each token is a character.
+fn are_chars(list: &[Token]) -> bool
+    ensures { (texts : Table) → result ≡ list_all spec_is_char (tokens_at texts list.now) }
+{
+    list.iter().all(|token| is_char(*token))
+}
+
 // Whether a token that was taken begins a group.
 fn begins_group(read: Option<Read>) -> bool
     ensures { (texts : Table) → result ≡ spec_begins_group (option_map (read_at texts) read) }
@@ -321,8 +329,9 @@ fn string_of(alloc: Global, list: &[Token]) -> Result<String, AllocError>
     requires { (count : ℕ) × TokensWithin count list.now }
     ensures { IfOk result (λ text. (texts : Table) → string_bytes text ≡ bytes_of (tokens_at texts list.now)) }
 {
+    let line = text_of(alloc, list)?;
     let mut text = String::new(alloc);
-    for code in text_of(alloc, list)?.as_slice() {
+    for code in line.as_slice() {
         match char::from_u32(*code) {
             Some(character) => text.push(character)?,
             None => unreachable!(),
