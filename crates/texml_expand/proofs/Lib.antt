@@ -16,6 +16,7 @@ pub mod Standing
 pub mod Giving
 pub mod Branching
 pub mod Including
+pub mod FileNames
 pub mod Levels
 pub mod Settle
 pub mod Total
