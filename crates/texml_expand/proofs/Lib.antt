@@ -64,4 +64,5 @@ pub mod Running
 pub mod Getting
 pub mod Inputs
 pub mod Apart
+pub mod Peeking
 pub mod Opening
