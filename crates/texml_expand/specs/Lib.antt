@@ -4,6 +4,7 @@ pub mod Least
 pub mod Arguments
 pub mod Branches
 pub mod Calls
+pub mod Include
 pub mod Front
 pub mod Begin
 pub mod Braces
@@ -14,7 +15,6 @@ pub mod Expansion
 pub mod Conditionals
 pub mod Names
 pub mod Gathering
-pub mod Include
 pub mod Expand
 pub mod Absorb
 pub mod Held
