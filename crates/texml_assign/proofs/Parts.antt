@@ -25,7 +25,7 @@ use Rattle.texml_expand.proofs.Deciding.{any, chain_decided, take_decided}
 use Rattle.texml_assign.specs.Loop.{ByDepth, On, Over}
 use Rattle.texml_expand.specs.Take.{take_token, means}
 use Rattle.texml_expand.specs.Arguments.{means_space}
-use Rattle.texml_assign.specs.Operands.{needed, next_token, token_of, token_or_end, key_of, next_key, space_turn, spaces_loop, behind_spaces, is_equals, behind_space, behind_sign, behind_equals, meaning_now, meant, with_token, look_ahead}
+use Rattle.texml_assign.specs.Operands.{needed, next_token, token_of, token_or_end, key_of, next_key, space_turn, spaces_loop, behind_spaces, is_equals, behind_space, behind_sign, behind_equals, meaning_now, meant, with_token}
 use Rattle.texml_assign.specs.Parameters.{Head, text_of, body_of}
 use Rattle.texml_assign.specs.Define.{parameter_text, needed_body, body_said, next_body, macro_of, defined, assigned}
 use Rattle.texml_assign.specs.Sets.{set, assign, begin_kind, ended, end_kind, read_after, keep_token}
@@ -168,9 +168,6 @@ plain_with_token f limit nesting begun more = record {
       (λ t u low. kept_lower s u (f t u) low (limit t u) (nesting t u) (begun t u) (more t u));
 }
 
-pub plain_look_ahead : Plain look_ahead
-plain_look_ahead = plain_with_token (λ t. back t false) (λ t s. refl) (λ t s. refl) (λ t s. refl) (λ t s. let e = size-cons (Tok t) s.rest in omega (arith, e))
-
 pub plain_after_group : Plain (with_token read_after)
 plain_after_group = plain_with_token read_after (λ t s. refl) (λ t s. refl) (λ t s. refl) (λ t s. let k = keep_room t s.world.groups in omega arith)
 
@@ -241,11 +238,8 @@ pub lawful_absorb : (expanding : Bool) → Lawful (absorb expanding)
 lawful_absorb false = lawful_plain (by_least absorbed) (plain_by_least absorbed)
 lawful_absorb true = lawful_calls _ lawful_absorb_expanded
 
-abbrev pub text_taken : Unit {0} → Reading (Head Token)
-text_taken x = by_least text_of
-
 pub plain_parameter_text : Plain parameter_text
-plain_parameter_text = plain_then look_ahead text_taken plain_look_ahead (λ x. plain_by_least text_of)
+plain_parameter_text = plain_by_least text_of
 
 pub plain_needed_body : (o : Option (List Token)) → Plain (needed_body o)
 plain_needed_body None = plain_fail _ _ _

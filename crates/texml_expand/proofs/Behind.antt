@@ -11,12 +11,12 @@ use Rattle.texml_expand.specs.declared.feeding.Verdict.TheVariants.{TooShort, Yi
 use Rattle.texml_expand.specs.declared.gathering.Gathering.{Gathering}
 use Rattle.texml_expand.specs.Braces.{closes}
 use Rattle.texml_expand.specs.Gathering.{judged}
-use Rattle.texml_expand.specs.Fronts.{gathered_count}
+use Rattle.texml_expand.specs.Fronts.{gathered_count, left_count, EndsGathering}
 use Rattle.texml_token.specs.Token.{Token}
 use Rattle.texml_watch.specs.declared.record.Record.{Record}
 use Rattle.texml_input.specs.Next.{Taken}
 use Rattle.texml_expand.specs.declared.stop.Stop.{Stop}
-use Rattle.texml_expand.specs.declared.gathering.Gathering.TheVariants.{Name, Group}
+use Rattle.texml_expand.specs.declared.gathering.Gathering.TheVariants.{Name, Group, FileName, All}
 use Rattle.texml_expand.specs.State.{give}
 use Rattle.texml_expand.specs.Calls.{Expandable, Gift, Puts}
 use Rattle.texml_expand.specs.Front.{Front, Plain, Expands, front}
@@ -24,12 +24,13 @@ use Rattle.texml_expand.specs.Expansion.{one_token, behind_first, expand_after}
 use Rattle.texml_expand.specs.Names.{name_of, cs_name}
 use Rattle.texml_expand.specs.Expand.{level}
 use Rattle.texml_expand.specs.Contract.{Outside}
-use Rattle.texml_expand.specs.Held.{Held, read_at, Shrinks}
+use Rattle.texml_input.specs.Held.{Source, IsAtFence}
+use Rattle.texml_expand.specs.Held.{Held, read_at, Shrinks, Puts}
 use Rattle.texml_expand.specs.Doing.{Does}
 use Rattle.texml_expand.proofs.Lawful.{lawful_give, lawful_expand, lawful_gather}
 use Rattle.texml_expand.proofs.Standing.{lawful_front}
 use Rattle.texml_expand.proofs.Giving.{lawful_one_token, lawful_behind_first, second_behind, lawful_second_behind, lawful_name_of}
-use Rattle.texml_expand.proofs.Running.{shrinks_then}
+use Rattle.texml_expand.proofs.Running.{shrinks_then, shrinks_puts}
 use Rattle.texml_expand.proofs.Doing.{does_stop, does_then}
 
 -- a group has as many tokens as were gathered before its end
@@ -50,6 +51,22 @@ gathered_shrinks Group texts w seen list t a b c old now mid i low is =
     let same = group_length w (tokens_at texts seen) (tokens_at texts list) (read_at texts t) is in
     shrinks_then (length seen) 1 (length list + 1) a b c old now mid i low (omega (arith, same, length-map seen (token_at texts), length-map list (token_at texts)))
 gathered_shrinks k texts w seen list t a b c old now mid i low is = shrinks_then (length seen) 1 0 a b c old now mid i low (omega arith)
+
+-- and with the token that may go back
+pub gathered_left : (k : Gathering) (texts : Table) (w : World) (seen list : List TokenCode) (t : Read) (a b c : Shelf) (old now mid new : Held) → Shrinks (length seen) a old b now → Shrinks 1 b now c mid
+    → Yields (tokens_at texts list) ≡ judged k w (tokens_at texts seen) (read_at texts t) → Puts (left_count k) mid new → Shrinks (gathered_count k list) a old c new
+gathered_left Group texts w seen list t a b c old now mid new i low is p = shrinks_puts (length list + 1) 0 (length list + 1) a c old mid new (gathered_shrinks Group texts w seen list t a b c old now mid i low is) p (omega arith)
+gathered_left FileName texts w seen list t a b c old now mid new i low is p = shrinks_puts 1 1 0 a c old mid new (shrinks_then (length seen) 1 1 a b c old now mid i low (omega arith)) p (omega arith)
+gathered_left k texts w seen list t a b c old now mid new i low is p = shrinks_puts 0 0 0 a c old mid new (shrinks_then (length seen) 1 0 a b c old now mid i low (omega arith)) p (omega arith)
+
+-- where all is gathered no token ends it
+pub yields_ends : (k : Gathering) (w : World) (seen list : List Token) (t : Taken) (sources : List Source) → Yields list ≡ judged k w seen t → EndsGathering k sources
+yields_ends All w seen list t sources e = cc
+yields_ends k w seen list t sources e = tt
+
+pub fence_ends : (k : Gathering) (sources : List Source) → IsAtFence sources → EndsGathering k sources
+fence_ends All sources h = h
+fence_ends k sources h = tt
 
 module _ {T : Type 0} (hear part : T → Record → T → Type 0) where
   -- the first token can't be taken, or it is this one

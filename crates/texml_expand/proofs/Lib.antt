@@ -16,6 +16,7 @@ pub mod Standing
 pub mod Giving
 pub mod Branching
 pub mod Including
+pub mod FileNames
 pub mod Levels
 pub mod Settle
 pub mod Total
@@ -62,3 +63,5 @@ pub mod Placing
 pub mod Running
 pub mod Getting
 pub mod Inputs
+pub mod Apart
+pub mod Opening

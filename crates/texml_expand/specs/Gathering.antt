@@ -66,9 +66,8 @@ judged Group w seen t = if t.crossed then Refuses FILE_ENDED else absorbed (seen
 judged FileName w seen t = of_file_name seen t.token
 judged All w seen t = TooShort
 
--- what the end of the text decides: there it is complete, or it is fault 4
+-- what the end of the text decides: all was gathered, and else it is fault 4
 abbrev pub at_end : Gathering → List Token → Verdict (List Token)
-at_end FileName seen = named_file (file_part seen) (Refuses FILE_ENDED)
 at_end All seen = Yields seen
 at_end g seen = Refuses FILE_ENDED
 

@@ -305,13 +305,12 @@ impl Engine {
         ensures begins { OnOk result (Begun self.old self.new) }
     {
         self.begin()?;
-        match found {
-            Expandable::Input => self.include(files, tell, token, deep),
-            found => {
-                let gift = self.given(files, tell, token, found, deep)?;
-                self.end(tell, token, gift)
-            }
+        if opens_file(&found) {
+            let name = self.file_name(files, tell, deep)?;
+            return self.open(files, tell, token, &name);
         }
+        let gift = self.given(files, tell, token, found, deep)?;
+        self.end(tell, token, gift)
     }
 
     // Begins an expansion.
@@ -914,6 +913,17 @@ impl Engine {
             Value::Dimen(value) => Ok(value),
             _ => unreachable!(),
         }
+    }
+}
+
+// Whether an expansion opens a file.
+fn opens_file(found: &Expandable) -> bool
+    ensures yes { result ≡ true → found.now ≡ Expandable.Input }
+    ensures no { result ≡ false → PutsTokens found.now }
+{
+    match found {
+        Expandable::Input => true,
+        _ => false,
     }
 }
 

@@ -110,7 +110,7 @@ impl Engine {
         ensures counts { IfOk result (λ list. gathered_count gathering list ≡ 0) }
         ensures within { IfOk result (TokensWithin (length self.new.names)) }
     {
-        let verdict = match ended(self.alloc, gathering, gathered) {
+        let verdict = match ended(gathering, gathered) {
             Ok(verdict) => verdict,
             Err(_) => return Err(self.no_memory()),
         };
@@ -306,19 +306,11 @@ impl Engine {
 }
 
 // What the end of the text decides.
-fn ended(alloc: Global, gathering: Gathering, gathered: &Gathered) -> Result<Verdict<Tokens>, AllocError>
+fn ended(gathering: Gathering, gathered: &Gathered) -> Result<Verdict<Tokens>, AllocError>
     ensures is { IfOk result (λ v. (texts : Table) → verdict_at texts v ≡ spec_at_end gathering (tokens_at texts gathered.now)) }
     ensures within { IfOk result (λ v. (count : ℕ) → TokensWithin count gathered.now → VerdictWithin count v) }
 {
     match gathering {
-        Gathering::FileName => {
-            let name = gathered.file_part(alloc)?;
-            if name.as_slice().is_empty() {
-                Ok(Verdict::Refuses(fault_code::FILE_ENDED))
-            } else {
-                Ok(Verdict::Yields(name))
-            }
-        }
         Gathering::All => Ok(Verdict::Yields(gathered.tokens()?)),
         _ => Ok(Verdict::Refuses(fault_code::FILE_ENDED)),
     }

@@ -1,19 +1,19 @@
 //! Files that are put before what is to be read.
 
-ghost use Rattle.std.specs.Prelude.{◌≡◌, ◌≤◌, ◌<◌, ◌-◌, ◌+◌, ◌∷◌, [], ℕ, None, Some, length, IfOk, OnOk, string_bytes};
-ghost use Rattle.texml_base.specs.Outside.{Shelf};
-ghost use Rattle.texml_token.specs.Numbers.{Table, token_at, tokens_at, TokenWithin, TokensWithin};
+ghost use Rattle.std.specs.Prelude.{◌≡◌, ◌≤◌, ◌<◌, ◌-◌, ◌+◌, ◌∷◌, ◌++◌, [], ℕ, None, Some, Ok, length, map, IfOk, OnOk, OnErr, option_map, option_to_list, string_bytes};
+ghost use Rattle.std.specs.List.{list_all};
+ghost use Rattle.texml_token.specs.Numbers.{Table, token_at, tokens_at, TokenWithin, TokensWithin, OptionWithin};
 ghost use Rattle.texml_token.specs.declared.fault_code.TheConstants.{MISSING_FILE};
-ghost use Rattle.texml_input.specs.Held.{Fence};
-ghost use Rattle.texml_expand.specs.State.{◌>>=◌, change};
-ghost use Rattle.texml_expand.specs.Arguments.{behind_spaces as spec_behind_spaces};
-ghost use Rattle.texml_expand.specs.Include.{alone as spec_alone, argument_alone as spec_argument_alone, taken_up, all_left as spec_all_left, is_char as spec_is_char, bytes_of, characters as spec_characters, name_argument as spec_name_argument, plain_name as spec_plain_name, returned, begins_group as spec_begins_group, file_name as spec_file_name, opened as spec_opened, include as spec_include, text_ended};
+ghost use Rattle.texml_input.specs.Held.{Plain, Fence};
+ghost use Rattle.texml_expand.specs.State.{◌>>=◌, give, change};
+ghost use Rattle.texml_expand.specs.Include.{alone as spec_alone, argument_alone as spec_argument_alone, all_left as spec_all_left, is_char as spec_is_char, bytes_of, characters as spec_characters, peeked as spec_peeked, name_argument as spec_name_argument, plain_name as spec_plain_name, returned, begins_group as spec_begins_group, file_name as spec_file_name, opened as spec_opened, include as spec_include, end_input as spec_end_input};
 ghost use Rattle.texml_expand.specs.Begin.{finish as spec_finish};
 ghost use Rattle.texml_expand.specs.Expand.{level};
-ghost use Rattle.texml_expand.specs.Held.{state_of, place_of, Sound, Kept, Progress, IsAtLimit, ok_at, read_at, ReadWithin, Owns, SameFiles, Shrinks, Begun, Puts};
+ghost use Rattle.texml_expand.specs.Fronts.{gift_at, GiftWithin};
+ghost use Rattle.texml_expand.specs.Held.{place_of, Sound, Kept, Progress, IsAtLimit, ok_at, read_at, ReadWithin, Owns, SameFiles, Shrinks, Puts, Passes};
 ghost use Rattle.texml_expand.specs.Contract.{Local, IsFaultAt, outside, files_at, stop_after};
 ghost use Rattle.texml_expand.specs.Hearing.{hears, hears_part};
-ghost use Rattle.texml_expand.specs.Doing.{Does, Gets};
+ghost use Rattle.texml_expand.specs.Doing.{Does, Gets, Tells};
 
 use super::Engine;
 use super::expanding::Gift;
@@ -29,31 +29,9 @@ use texml_watch::Teller;
 const MOST_FILES: usize = 100;
 
 impl Engine {
-    // An expansion of `\input` that has begun: the text of a file is put before what is to be read, and it is told.
-    #[cycle(expanding)]
-    pub(super) fn include<F: Files, T: Teller>(
-        &mut self,
-        files: &mut F,
-        tell: &mut T,
-        token: Token,
-        deep: usize,
-    ) -> Result<(), Stop>
-        requires running { self.old.stop ≡ None }
-        requires sound { Sound self.old }
-        requires owns { Owns (F.shelf files.old) self.old }
-        requires nested { 1 ≤ self.old.nesting }
-        requires token { TokenWithin (length self.old.names) token }
-        ensures does { Does (hears T.wanting T.heard) (hears_part T.wanting T.part)
-            (λ n. spec_include (level n) >>= spec_finish (token_at self.old.names token)) (result) self.old self.new (outside (F.shelf files.old) (F.faults files.old) (T.faults tell.old) (T.loan tell.old)) (outside (F.shelf files.new) (F.faults files.new) (T.faults tell.new) (T.loan tell.new)) tell.old tell.new }
-        ensures passes { OnOk result (Passes 1 self.old self.new) }
-    {
-        let name = self.file_name(files, tell, deep)?;
-        self.open(files, tell, token, &name)
-    }
-
     // The name of a file: behind spaces a brace begins an argument, and else it goes up to a space or another token that is no character.
     #[cycle(expanding)]
-    fn file_name<F: Files, T: Teller>(
+    pub(super) fn file_name<F: Files, T: Teller>(
         &mut self,
         files: &mut F,
         tell: &mut T,
@@ -66,13 +44,25 @@ impl Engine {
             (λ n. spec_file_name (level n)) (ok_at string_bytes result) self.old self.new (outside (F.shelf files.old) (F.faults files.old) (T.faults tell.old) (T.loan tell.old)) (outside (F.shelf files.new) (F.faults files.new) (T.faults tell.new) (T.loan tell.new)) tell.old tell.new }
         ensures lower { OnOk result (Shrinks 0 (F.shelf files.old) self.old (F.shelf files.new) self.new) }
     {
-        let read = self.behind_spaces(files)?;
-        self.put_read(read)?;
+        let read = self.peek(files)?;
         if begins_group(read) {
             self.name_argument(files, tell, deep)
         } else {
             self.plain_name(files, tell, deep)
         }
+    }
+
+    // The next token behind spaces, which stays.
+    fn peek<F: Files>(&mut self, files: &mut F) -> Result<Option<Read>, Stop>
+        requires running { self.old.stop ≡ None }
+        requires sound { Sound self.old }
+        requires owns { Owns (F.shelf files.old) self.old }
+        ensures gets { Gets spec_peeked (ok_at (option_map (read_at self.new.names)) result) self.old self.new (files_at (F.shelf files.old) (F.faults files.old)) (files_at (F.shelf files.new) (F.faults files.new)) }
+        ensures lower { OnOk result (Shrinks 0 (F.shelf files.old) self.old (F.shelf files.new) self.new) }
+    {
+        let read = self.behind_spaces(files)?;
+        self.put_read(read)?;
+        Ok(read)
     }
 
     // A token that was taken goes back as it was.
@@ -154,7 +144,7 @@ impl Engine {
         requires running { self.old.stop ≡ None }
         requires sound { Sound self.old }
         requires list { TokensWithin (length self.old.names) list.now }
-        ensures apart { Local (change (alone (tokens_at self.old.names list.now))) result self.old self.new }
+        ensures apart { Local (change (spec_alone (tokens_at self.old.names list.now))) result self.old self.new }
         ensures kept { self.new.stop ≡ stop_after result }
         ensures progress { Progress self.old self.new }
         ensures limit { IsAtLimit result self.new }
@@ -212,7 +202,7 @@ impl Engine {
         ensures keeps { OnOk result (Kept self.old self.new) }
         ensures same { OnOk result (self.new ≡ self.old) }
     {
-        if list.iter().all(|token| is_char(*token)) {
+        if are_chars(list) {
             self.text(list)
         } else {
             Err(self.bare_fault(fault_code::MISSING_ENDCSNAME))
@@ -239,7 +229,7 @@ impl Engine {
     }
 
     // Opens the file that a name means, puts its text before what is to be read, and ends the expansion, which is told.
-    fn open<F: Files, T: Teller>(
+    pub(super) fn open<F: Files, T: Teller>(
         &mut self,
         files: &mut F,
         tell: &mut T,
@@ -251,8 +241,8 @@ impl Engine {
         requires owns { Owns (F.shelf files.old) self.old }
         requires nested { 1 ≤ self.old.nesting }
         requires token { TokenWithin (length self.old.names) token }
-        ensures does { Does (hears T.wanting T.heard) (hears_part T.wanting T.part)
-            (λ n. spec_opened name.now >>= spec_finish (token_at self.old.names token)) (result) self.old self.new (outside (F.shelf files.old) (F.faults files.old) (T.faults tell.old) (T.loan tell.old)) (outside (F.shelf files.new) (F.faults files.new) (T.faults tell.new) (T.loan tell.new)) tell.old tell.new }
+        ensures tells { Tells (hears T.wanting T.heard) (hears_part T.wanting T.part)
+            (spec_opened name.now >>= spec_finish (token_at self.old.names token)) result self.old self.new (outside (F.shelf files.old) (F.faults files.old) (T.faults tell.old) (T.loan tell.old)) (outside (F.shelf files.new) (F.faults files.new) (T.faults tell.new) (T.loan tell.new)) tell.old tell.new }
         ensures passes { OnOk result (Passes 1 self.old self.new) }
     {
         if self.input.files_open() >= MOST_FILES {
@@ -317,6 +307,13 @@ fn is_char(token: Token) -> bool
     }
 }
 
+// Whether each token is a character.
+fn are_chars(list: &[Token]) -> bool
+    ensures { (texts : Table) → result ≡ list_all spec_is_char (tokens_at texts list.now) }
+{
+    list.iter().all(|token| is_char(*token))
+}
+
 // Whether a token that was taken begins a group.
 fn begins_group(read: Option<Read>) -> bool
     ensures { (texts : Table) → result ≡ spec_begins_group (option_map (read_at texts) read) }
@@ -332,8 +329,9 @@ fn string_of(alloc: Global, list: &[Token]) -> Result<String, AllocError>
     requires { (count : ℕ) × TokensWithin count list.now }
     ensures { IfOk result (λ text. (texts : Table) → string_bytes text ≡ bytes_of (tokens_at texts list.now)) }
 {
+    let line = text_of(alloc, list)?;
     let mut text = String::new(alloc);
-    for code in text_of(alloc, list)?.as_slice() {
+    for code in line.as_slice() {
         match char::from_u32(*code) {
             Some(character) => text.push(character)?,
             None => unreachable!(),
