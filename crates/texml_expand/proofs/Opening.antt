@@ -23,7 +23,7 @@ use Rattle.texml_expand.specs.declared.stop.Stop.TheVariants as stop
 use Rattle.texml_expand.specs.State.{State, Tex, nothing, Ended, Reading, ◌>>=◌, tell, fault_at}
 use Rattle.texml_expand.specs.Calls.{Gift, Opens}
 use Rattle.texml_expand.specs.Begin.{finish, finished, record_of}
-use Rattle.texml_expand.specs.Include.{texts, open_texts, whole_text, found, opened}
+use Rattle.texml_expand.specs.Include.{texts, open_texts, whole_text, found, opening}
 use Rattle.texml_expand.specs.Contract.{Outside, outside, Stops, IsFaultAt}
 use Rattle.texml_expand.specs.Hearing.{Meets}
 use Rattle.texml_expand.specs.Held.{Held, place_of, state_of, Sound, Kept, Progress, IsAtLimit, Owns, Holding, SameFiles, Passes}
@@ -48,20 +48,17 @@ texts_held names shelf (Fence ∷ s) = sum_by-cons texts (rest_at names shelf s)
 -- What opening answers
 
 module _ (name : List ℕ) (t : Token) where
-  abbrev pub opening : Reading (Unit {0})
-  opening = opened name >>= finish t
-
   abbrev answer : Bool → Option (List ℕ) → Reading (Unit {0})
   answer b o = (λ s. if b then Ended (Tex (fault_at DEPTH [] s.place)) nothing else found name o s) >>= finish t
 
-  pub opening_full : (s : State) → nat_le MOST_FILES (open_texts s) ≡ true → opening s ≡ Ended (Tex (fault_at DEPTH [] s.place)) nothing
+  pub opening_full : (s : State) → nat_le MOST_FILES (open_texts s) ≡ true → opening t name s ≡ Ended (Tex (fault_at DEPTH [] s.place)) nothing
   opening_full s full = ap (λ b. answer b (first_there s.contents (names_tried name)) s) full
 
-  pub opening_missing : (s : State) → nat_le MOST_FILES (open_texts s) ≡ false → first_there s.contents (names_tried name) ≡ None → opening s ≡ Ended (Tex (fault_at MISSING_FILE name s.place)) nothing
+  pub opening_missing : (s : State) → nat_le MOST_FILES (open_texts s) ≡ false → first_there s.contents (names_tried name) ≡ None → opening t name s ≡ Ended (Tex (fault_at MISSING_FILE name s.place)) nothing
   opening_missing s few none = ap (λ b. answer b (first_there s.contents (names_tried name)) s) few ∙ ap (λ o. answer false o s) none
 
   pub opening_found : (s : State) (there : List ℕ) → nat_le MOST_FILES (open_texts s) ≡ false → first_there s.contents (names_tried name) ≡ Some there
-      → opening s ≡ tell (record_of t [] there) (finished (Text (whole_text s.contents there) ∷ []) s)
+      → opening t name s ≡ tell (record_of t [] there) (finished (Text (whole_text s.contents there) ∷ []) s)
   opening_found s there few is = ap (λ b. answer b (first_there s.contents (names_tried name)) s) few ∙ ap (λ o. answer false o s) is
 
 -- so many are open, or fewer
@@ -129,15 +126,15 @@ module _ (before now : Shelf) (h : Held) (there : List ℕ) (id : ℕ) (owns : O
 
 module _ {T : Type 0} (hear part : T → Record → T → Type 0) (name : List ℕ) (t : Token) where
   abbrev Opening : Result (Unit {0}) Stop → Held → Held → Outside → Outside → T → T → Type 0
-  Opening r old new f g a b = Tells hear part (opening name t) r old new f g a b
+  Opening r old new f g a b = Tells hear part (opening t name) r old new f g a b
 
-  tells_of : (r : Result (Unit {0}) Stop) (old new : Held) (f g : Outside) (a b : T) → Did hear part (opening name t (state_of f.shelf old)) r old new f g a b → Opening r old new f g a b
+  tells_of : (r : Result (Unit {0}) Stop) (old new : Held) (f g : Outside) (a b : T) → Did hear part (opening t name (state_of f.shelf old)) r old new f g a b → Opening r old new f g a b
   tells_of r old new f g a b d = record { meets = d.meets; stops = d.stops; limit = d.limit; keeps = d.keeps; progress = d.progress; holds = d.holds }
 
   -- too many are open
   pub tells_full : (e : Stop) (h new : Held) (f : Outside) (a : T) → nat_le MOST_FILES (open_texts (state_of f.shelf h)) ≡ true → IsFaultAt DEPTH [] (place_of h) e → new ≡ record h { stop = Some e } → Owns f.shelf h → Opening (Err e) h new f f a a
   tells_full e h new f a full fault is owns =
-      tells_of (Err e) h new f f a a (did_fault hear part (opening name t (state_of f.shelf h)) DEPTH [] e h new f a (opening_full name t (state_of f.shelf h) full) fault is owns)
+      tells_of (Err e) h new f f a a (did_fault hear part (opening t name (state_of f.shelf h)) DEPTH [] e h new f a (opening_full name t (state_of f.shelf h) full) fault is owns)
 
   module _ (h new : Held) (before now : Shelf) (reads reads' tells loan : ℕ) (a : T) (owns : Owns before h) (same : now ≡ before) where
     abbrev f : Outside
@@ -156,10 +153,10 @@ module _ {T : Type 0} (hear part : T → Record → T → Type 0) (name : List �
     tells_missing e count few none fault is =
         unopened (Err e) count
         (tells_of (Err e) h new f f a a
-        (did_by hear part (opening name t (state_of before h)) (Err e) h new f f a a
+        (did_by hear part (opening t name (state_of before h)) (Err e) h new f f a a
         (λ told.
-        meets_silent hear part (opening name t (state_of before h)) (Err e) (state_of before new) a
-        (silent_fault (opening name t (state_of before h)) MISSING_FILE name (place_of h) e (state_of before new) (opening_missing name t (state_of before h) few (none told)) fault))
+        meets_silent hear part (opening t name (state_of before h)) (Err e) (state_of before new) a
+        (silent_fault (opening t name (state_of before h)) MISSING_FILE name (place_of h) e (state_of before new) (opening_missing name t (state_of before h) few (none told)) fault))
         (runs_fault MISSING_FILE name e h new f fault is owns)))
 
     -- files failed
@@ -167,8 +164,8 @@ module _ {T : Type 0} (hear part : T → Record → T → Type 0) (name : List �
     tells_unread rose is =
         subst (λ shelf. As shelf reads' (Err stop.ReadFailed)) (sym same)
         (tells_of (Err stop.ReadFailed) h new f (outside before reads' tells loan) a a
-        (did_by hear part (opening name t (state_of before h)) (Err stop.ReadFailed) h new f (outside before reads' tells loan) a a
-        (λ told. meets_quiet hear part (opening name t (state_of before h)) (Err stop.ReadFailed) (state_of before new) a tt)
+        (did_by hear part (opening t name (state_of before h)) (Err stop.ReadFailed) h new f (outside before reads' tells loan) a a
+        (λ told. meets_quiet hear part (opening t name (state_of before h)) (Err stop.ReadFailed) (state_of before new) a tt)
         (record {
           stops = record { kept = ap (λ (h : Held). h.stop) is; reads = rose; tells = refl; loan = refl };
           limit = tt;
@@ -179,7 +176,7 @@ module _ {T : Type 0} (hear part : T → Record → T → Type 0) (name : List �
 
     -- memory was refused
     pub tells_short : (e : Stop) → reads' ≡ reads → e ≡ stop.NoMemory → new ≡ record h { stop = Some stop.NoMemory } → As now reads' (Err e)
-    tells_short e count short is = unopened (Err e) count (tells_of (Err e) h new f f a a (did_out hear part (opening name t (state_of before h)) e h new f a short is owns))
+    tells_short e count short is = unopened (Err e) count (tells_of (Err e) h new f f a a (did_out hear part (opening t name (state_of before h)) e h new f a short is owns))
 
   -- a file was opened, and closed again
   module _ (before mid now : Shelf) (there : List ℕ) (id : ℕ) (o : IsOpened before mid there id) (c : IsClosed mid now id) where
@@ -200,7 +197,7 @@ module _ {T : Type 0} (hear part : T → Record → T → Type 0) (name : List �
         let g = outside now reads' tells loan in
         subst (λ (s : Stop). Opening (Err s) h new f g a a) (sym short)
         (tells_of (Err stop.NoMemory) h new f g a a
-        (did_by hear part (opening name t (state_of before h)) (Err stop.NoMemory) h new f g a a (λ told. part_untold hear part (opening name t (state_of before h)) a)
+        (did_by hear part (opening t name (state_of before h)) (Err stop.NoMemory) h new f g a a (λ told. part_untold hear part (opening t name (state_of before h)) a)
         (record {
           stops = record { kept = ap (λ (h : Held). h.stop) is; reads = count; tells = refl; loan = refl };
           limit = tt;
@@ -228,7 +225,7 @@ module _ {T : Type 0} (hear part : T → Record → T → Type 0) (name : List �
         let f = outside before reads tells loan in
         let g = outside now reads' tells' loan' in
         tells_of r h new f g a b
-        (did_by hear part (opening name t (state_of before h)) r h new f g a b
+        (did_by hear part (opening t name (state_of before h)) r h new f g a b
         (λ shown.
         let e = opening_found name t (state_of before h) there few (is shown) ∙ ap (tell (record_of t [] there)) (sym (state_opened before now h there id owns o shown)) in
         subst (λ x. Meets hear part x r (state_of now new) a b) (sym e) (told now))

@@ -15,6 +15,7 @@ use Rattle.texml_expand.specs.Take.{back}
 use Rattle.texml_expand.specs.Arguments.{behind_spaces, read_argument}
 use Rattle.texml_expand.specs.Names.{text_of}
 use Rattle.texml_expand.specs.Calls.{Gift, Puts, Opens, Calls}
+use Rattle.texml_expand.specs.Begin.{finish}
 
 -- Tokens that are read alone
 
@@ -124,6 +125,12 @@ abbrev pub include : Calls → Reading Gift
 include calls = do
   name ← file_name calls
   opened name
+
+-- so an expansion ends that opens the file of a name
+abbrev pub opening : Token → List ℕ → Reading (Unit {0})
+opening t name = do
+  gift ← opened name
+  finish t gift
 
 -- \endinput ends the first text behind its line that was loaded last
 abbrev pub text_ended : State → State

@@ -4,9 +4,9 @@ pub mod Least
 pub mod Arguments
 pub mod Branches
 pub mod Calls
-pub mod Include
 pub mod Front
 pub mod Begin
+pub mod Include
 pub mod Braces
 pub mod Printed
 pub mod Variables

@@ -5,9 +5,8 @@ ghost use Rattle.std.specs.List.{list_all};
 ghost use Rattle.texml_token.specs.Numbers.{Table, token_at, tokens_at, TokenWithin, TokensWithin, OptionWithin};
 ghost use Rattle.texml_token.specs.declared.fault_code.TheConstants.{MISSING_FILE};
 ghost use Rattle.texml_input.specs.Held.{Plain, Fence};
-ghost use Rattle.texml_expand.specs.State.{◌>>=◌, give, change};
-ghost use Rattle.texml_expand.specs.Include.{alone as spec_alone, argument_alone as spec_argument_alone, all_left as spec_all_left, is_char as spec_is_char, bytes_of, characters as spec_characters, peeked as spec_peeked, name_argument as spec_name_argument, plain_name as spec_plain_name, returned, begins_group as spec_begins_group, file_name as spec_file_name, opened as spec_opened, include as spec_include, end_input as spec_end_input};
-ghost use Rattle.texml_expand.specs.Begin.{finish as spec_finish};
+ghost use Rattle.texml_expand.specs.State.{give, change};
+ghost use Rattle.texml_expand.specs.Include.{alone as spec_alone, argument_alone as spec_argument_alone, all_left as spec_all_left, is_char as spec_is_char, bytes_of, characters as spec_characters, peeked as spec_peeked, name_argument as spec_name_argument, plain_name as spec_plain_name, returned, begins_group as spec_begins_group, file_name as spec_file_name, opening as spec_opening, end_input as spec_end_input};
 ghost use Rattle.texml_expand.specs.Expand.{level};
 ghost use Rattle.texml_expand.specs.Fronts.{gift_at, GiftWithin};
 ghost use Rattle.texml_expand.specs.Held.{place_of, Sound, Kept, Progress, IsAtLimit, ok_at, read_at, ReadWithin, Owns, SameFiles, Shrinks, Puts, Passes};
@@ -242,7 +241,7 @@ impl Engine {
         requires nested { 1 ≤ self.old.nesting }
         requires token { TokenWithin (length self.old.names) token }
         ensures tells { Tells (hears T.wanting T.heard) (hears_part T.wanting T.part)
-            (spec_opened name.now >>= spec_finish (token_at self.old.names token)) result self.old self.new (outside (F.shelf files.old) (F.faults files.old) (T.faults tell.old) (T.loan tell.old)) (outside (F.shelf files.new) (F.faults files.new) (T.faults tell.new) (T.loan tell.new)) tell.old tell.new }
+            (spec_opening (token_at self.old.names token) name.now) result self.old self.new (outside (F.shelf files.old) (F.faults files.old) (T.faults tell.old) (T.loan tell.old)) (outside (F.shelf files.new) (F.faults files.new) (T.faults tell.new) (T.loan tell.new)) tell.old tell.new }
         ensures passes { OnOk result (Passes 1 self.old self.new) }
     {
         if self.input.files_open() >= MOST_FILES {
