@@ -55,11 +55,11 @@ module _ {T : Type 0} (hear part : T → Record → T → Type 0) where
 
   -- all that is left
   pub left_stops : (e : Stop) (old new : Held) (f g : Outside) (a b : T) → Does hear part (λ n. (level n).gather All []) (Err e) old new f g a b → Does hear part (λ n. all_left (level n)) (Err e) old new f g a b
-  left_stops e old new f g a b d = does_stop hear part (λ c. c.gather All []) up_with (lawful_gather All) lawful_up_with e old new f g a b d
+  left_stops e old new f g a b d = does_stop hear part (λ c. c.gather All []) (λ list c. up_with list) (lawful_gather All) lawful_up_with e old new f g a b d
 
-  pub left_does : (list : List Token) (r : Result (List Token) Stop) (old mid new : Held) (f g h : Outside) (a b c : T) → Does hear part (λ n. (level n).gather All []) (Ok list) old mid f g a b → Does hear part (λ n. up_with list (level n)) r mid new g h b c
+  pub left_does : (list : List Token) (r : Result (List Token) Stop) (old mid new : Held) (f g h : Outside) (a b c : T) → Does hear part (λ n. (level n).gather All []) (Ok list) old mid f g a b → Does hear part (λ n. up_with list) r mid new g h b c
       → Does hear part (λ n. all_left (level n)) r old new f h a c
-  left_does list r old mid new f g h a b c d k = does_then hear part (λ c. c.gather All []) up_with (lawful_gather All) lawful_up_with list r old mid new f g h a b c d k
+  left_does list r old mid new f g h a b c d k = does_then hear part (λ c. c.gather All []) (λ list c. up_with list) (lawful_gather All) lawful_up_with list r old mid new f g h a b c d k
 
 -- What was set aside is read again
 
@@ -110,7 +110,7 @@ unfenced_shrinks k a b old mid at s = record {
 }
 
 module _ {T : Type 0} (hear part : T → Record → T → Type 0) where
-  pub up_does : (list : List Token) (h : Held) (f : Outside) (a : T) → IsAtFence h.input.sources → Sound h → h.stop ≡ None → Owns f.shelf h → Does hear part (λ n. up_with list (level n)) (Ok list) h (with_sources (unfenced h.input.sources) h) f f a a
+  pub up_does : (list : List Token) (h : Held) (f : Outside) (a : T) → IsAtFence h.input.sources → Sound h → h.stop ≡ None → Owns f.shelf h → Does hear part (λ n. up_with list) (Ok list) h (with_sources (unfenced h.input.sources) h) f f a a
   up_does list h f a at sound running owns =
-      does_silent hear part (up_with list) (lawful_up_with list) (Ok list) h (with_sources (unfenced h.input.sources) h) f a (ap (λ s. Done list s nothing) (sym (unfenced_state f.shelf h h.input.sources at))) running tt
+      does_silent hear part (λ c. up_with list) (lawful_up_with list) (Ok list) h (with_sources (unfenced h.input.sources) h) f a (ap (λ s. Done list s nothing) (sym (unfenced_state f.shelf h h.input.sources at))) running tt
       (unfenced_kept h at sound) (record { names = extends_refl h.names; begun = omega arith; limit = refl; writes = omega arith }) (record { ids = unfenced_ids h.input.sources at }) owns

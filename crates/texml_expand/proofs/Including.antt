@@ -1,5 +1,5 @@
 -- What \input and \endinput read and give is lawful.
-use Rattle.std.proofs.Common.{◌≡◌, ◌+◌, ◌≤◌, ℕ, Bool, true, false, nat_le, if◌then◌else◌, List, [], ◌∷◌, length, map, Option, Some, None, refl, ap, arith}
+use Rattle.std.proofs.Common.{◌≡◌, ◌≤◌, ℕ, Bool, true, false, nat_le, if◌then◌else◌, List, [], ◌∷◌, length, map, Option, Some, None, refl, ap, arith}
 use Rattle.std.specs.Prelude.{sum_by}
 use Rattle.std.specs.List.{list_all}
 use Rattle.std.proofs.lemmas.List.Sums.{sum_by-cons}
@@ -9,8 +9,9 @@ use Rattle.texml_match.specs.Arguments.{argument}
 use Rattle.texml_input.specs.Rest.{Item, Tok, Frozen, Text, ended, size, has_text, end_text, end_rests}
 use Rattle.texml_input.specs.Next.{Taken}
 use Rattle.texml_input.specs.Searching.{names_tried, first_there}
+use Rattle.texml_expand.specs.declared.engine.including.TheConstants.{MOST_FILES}
 use Rattle.texml_expand.specs.declared.gathering.Gathering.TheVariants.{FileName, All}
-use Rattle.texml_expand.specs.State.{State, Answer, Reading, chain, IsDecided, give, fail, change}
+use Rattle.texml_expand.specs.State.{State, room, Answer, Reading, chain, IsDecided, give, fail, change}
 use Rattle.texml_expand.specs.Arguments.{decided_by, behind_spaces, read_argument}
 use Rattle.texml_expand.specs.Calls.{Gift, Puts}
 use Rattle.texml_expand.specs.Include.{with_rests, alone, taken_up, argument_alone, all_left, is_char, bytes_of, characters, name_argument, plain_name, returned, peeked, begins_group, name_by, file_name, open_texts, found, opened, include, text_ended, end_input}

@@ -17,7 +17,6 @@ use Rattle.texml_expand.specs.Quantities.{Looked, next_looked, look, put_last, d
 use Rattle.texml_expand.specs.Expansion.{string, job}
 use Rattle.texml_expand.specs.Conditionals.{number}
 use Rattle.texml_expand.specs.Least.{decided}
-use Rattle.texml_expand.specs.Include.{include, end_input}
 use Rattle.texml_expand.specs.Gathering.{judged, at_end, left, gather_on, copies, gather_expansion, gather_front, gather_by, returned, copied, copy_by}
 use Rattle.texml_expand.specs.Expand.{Expandable, Call, ExpandAfter, NoExpand, CsName, String, Number, RomanNumeral, The, JobName, Input, EndInput, Conditional, PartEnd, Gathering, Seen, Calls, items_of, Front, Nothing, Plain, Expands, front, begin, decimal, roman_numeral, given, finished, finish, expand_by, fetch_front, fetch_by, step, level}
 use Rattle.texml_expand.specs.Calls.{looks}

@@ -18,7 +18,7 @@ use Rattle.texml_expand.specs.Fronts.{front_at, gift_at}
 use Rattle.texml_expand.specs.Held.{Held, state_of, Sound, Kept, Progress, IsAtLimit, Owns, SameFiles, Shrinks, Begun}
 use Rattle.texml_expand.specs.Contract.{Local, Outside, outside, files_at, Stops, stop_after}
 use Rattle.texml_expand.specs.Hearing.{Meets}
-use Rattle.texml_expand.specs.Include.{file_name, opened}
+use Rattle.texml_expand.specs.Include.{file_name, opened, opening}
 use Rattle.texml_expand.specs.Doing.{Does, Gets, Tells}
 use Rattle.texml_expand.proofs.Running.{shrinks_none, shrinks_then, shrinks_begun, holding_same}
 use Rattle.texml_expand.proofs.Lawful.{lawful_fetch, lawful_expand}
@@ -141,12 +141,12 @@ module _ {T : Type 0} (hear part : T → Record → T → Type 0) where
   did_told x r old new f g a b d = record { meets = d.meets; stops = d.stops; limit = d.limit; keeps = d.keeps; progress = d.progress; holds = d.holds }
 
   pub expand_opens : (t : Token) (name : List ℕ) (r : Result (Unit {0}) Stop) (old mid now new : Held) (f g h : Outside) (a b c : T) → Did hear part (begin (state_of f.shelf old)) (Ok tt) old mid f f a a
-      → Does hear part (λ n. file_name (level n)) (Ok name) mid now f g a b → Tells hear part (opened name >>= finish t) r now new g h b c → Does hear part (λ n. (level n).expand t Input) r old new f h a c
+      → Does hear part (λ n. file_name (level n)) (Ok name) mid now f g a b → Tells hear part (opening t name) r now new g h b c → Does hear part (λ n. (level n).expand t Input) r old new f h a c
   expand_opens t name r old mid now new f g h a b c d k u =
       expand_does t Input r old new f h a c (did_then hear part (begin (state_of f.shelf old)) _ tt r old mid new f f h a a c d
       (did_as hear part _ _ r mid new f h a c (chain_chain (file_name total (state_of f.shelf mid)) opened (finish t))
-      (did_then hear part (file_name total (state_of f.shelf mid)) (λ n. opened n >>= finish t) name r mid now new f g h a b c (did_of hear part file_name lawful_file_name (Ok name) mid now f g a b k)
-      (did_told (opened name >>= finish t) r now new g h b c u))))
+      (did_then hear part (file_name total (state_of f.shelf mid)) (opening t) name r mid now new f g h a b c (did_of hear part file_name lawful_file_name (Ok name) mid now f g a b k)
+      (did_told (opening t name) r now new g h b c u))))
 
   -- the same expansion
   pub given_as : (t u : Token) (x y : Expandable) (r : Result Gift Stop) (old new : Held) (f g : Outside) (a b : T) → u ≡ t → y ≡ x → Does hear part (λ n. given (level n) t x) r old new f g a b → Does hear part (λ n. given (level n) u y) r old new f g a b

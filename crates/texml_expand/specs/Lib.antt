@@ -15,7 +15,6 @@ pub mod Expansion
 pub mod Conditionals
 pub mod Names
 pub mod Gathering
-pub mod Include
 pub mod Expand
 pub mod Absorb
 pub mod Held

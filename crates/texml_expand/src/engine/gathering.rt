@@ -1,6 +1,6 @@
 //! Gathering tokens that are expanded as they come.
 
-ghost use Rattle.std.specs.Prelude.{◌≡◌, ◌∷◌, ◌++◌, ◌-◌, ◌≤◌, [], ℕ, None, Some, length, IfOk, OnOk};
+ghost use Rattle.std.specs.Prelude.{◌≡◌, ◌∷◌, ◌++◌, ◌-◌, ◌≤◌, [], ℕ, None, Some, false, length, IfOk, OnOk};
 ghost use Rattle.texml_base.specs.Outside.{Shelf};
 ghost use Rattle.texml_token.specs.Numbers.{Table, token_at, tokens_at, TokenWithin, TokensWithin};
 ghost use Rattle.texml_scope.specs.Texts.{World};
