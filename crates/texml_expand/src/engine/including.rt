@@ -310,7 +310,12 @@ fn is_char(token: Token) -> bool
 fn are_chars(list: &[Token]) -> bool
     ensures { (texts : Table) → result ≡ list_all spec_is_char (tokens_at texts list.now) }
 {
-    list.iter().all(|token| is_char(*token))
+    for token in list {
+        if !is_char(*token) {
+            return false;
+        }
+    }
+    true
 }
 
 // Whether a token that was taken begins a group.
