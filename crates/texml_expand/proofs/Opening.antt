@@ -43,7 +43,7 @@ texts_held names shelf [] = refl
 texts_held names shelf (Plain t ∷ s) = texts_held names shelf s
 texts_held names shelf (Marked t ∷ s) = texts_held names shelf s
 texts_held names shelf (File f ∷ s) = let h = texts_held names shelf s in omega arith
-texts_held names shelf (Fence ∷ s) = sum_by-cons texts (rest_at names shelf s) (map (items_at names) (aside_of shelf s)) ∙ texts_held names shelf s
+texts_held names shelf (Fence ∷ s) = let e = sum_by-cons texts (rest_at names shelf s) (map (items_at names) (aside_of shelf s)) in let h = texts_held names shelf s in omega arith
 
 -- What opening answers
 
