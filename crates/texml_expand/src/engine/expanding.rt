@@ -1,6 +1,6 @@
 //! Fetching, expanding and looking at tokens for quantities: these lead back to each other.
 
-ghost use Rattle.std.specs.Prelude.{ℕ, ◌≡◌, ◌+◌, ◌-◌, ◌≤◌, ◌∷◌, ◌++◌, Some, None, [], length, map, IfSome, IsSome, IfOk, OnOk, option_map, option_to_list, pos};
+ghost use Rattle.std.specs.Prelude.{true, false, ℕ, ◌≡◌, ◌+◌, ◌-◌, ◌≤◌, ◌∷◌, ◌++◌, Some, None, [], length, map, IfSome, IsSome, IfOk, OnOk, option_map, option_to_list, pos};
 ghost use Rattle.std.specs.List.{All};
 ghost use Rattle.texml_token.specs.Numbers.{token_at, tokens_at, TokenWithin, TokensWithin, OptionWithin};
 ghost use Rattle.texml_scope.specs.Numbers.{meaning_at, MeaningWithin};

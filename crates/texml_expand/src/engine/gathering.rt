@@ -8,7 +8,7 @@ ghost use Rattle.texml_scope.specs.Numbers.{meaning_at};
 ghost use Rattle.texml_expand.specs.State.{change};
 ghost use Rattle.texml_expand.specs.Least.{decided};
 ghost use Rattle.texml_expand.specs.Take.{back as spec_back};
-ghost use Rattle.texml_expand.specs.Gathering.{left, at_end as spec_at_end, of_file_name as spec_of_file_name, doubled as doubled_list, copies as spec_copies, copied as spec_copied, kept_of, returned as spec_returned, ends_name as spec_ends_name, is_relation as spec_is_relation, judged as spec_judged, of_relation as spec_of_relation};
+ghost use Rattle.texml_expand.specs.Gathering.{left, at_end as spec_at_end, of_file_name as spec_of_file_name, named_file, doubled as doubled_list, copies as spec_copies, copied as spec_copied, kept_of, returned as spec_returned, ends_name as spec_ends_name, is_relation as spec_is_relation, judged as spec_judged, of_relation as spec_of_relation};
 ghost use Rattle.texml_expand.specs.Quantities.{counts_as as spec_counts_as, shown as spec_shown};
 ghost use Rattle.texml_expand.specs.Fronts.{gathered_count, left_count, EndsGathering, at_once, expandable_at, ExpandableWithin, verdict_at, VerdictWithin, PartsWithin};
 ghost use Rattle.texml_expand.specs.VariableCodes.{internal_at, InternalWithin};
@@ -110,14 +110,12 @@ impl Engine {
         ensures counts { IfOk result (λ list. gathered_count gathering list ≡ 0) }
         ensures within { IfOk result (TokensWithin (length self.new.names)) }
     {
-        let verdict = match ended(gathering, gathered) {
-            Ok(verdict) => verdict,
-            Err(_) => return Err(self.no_memory()),
-        };
-        match verdict {
-            Verdict::TooShort => unreachable!(),
-            Verdict::Yields(list) => Ok(list),
-            Verdict::Refuses(code) => Err(self.bare_fault(code)),
+        match gathering {
+            Gathering::All => match gathered.tokens() {
+                Ok(list) => Ok(list),
+                Err(_) => Err(self.no_memory()),
+            },
+            _ => Err(self.bare_fault(fault_code::FILE_ENDED)),
         }
     }
 
@@ -305,33 +303,27 @@ impl Engine {
     }
 }
 
-// What the end of the text decides.
-fn ended(gathering: Gathering, gathered: &Gathered) -> Result<Verdict<Tokens>, AllocError>
-    ensures is { IfOk result (λ v. (texts : Table) → verdict_at texts v ≡ spec_at_end gathering (tokens_at texts gathered.now)) }
-    ensures within { IfOk result (λ v. (count : ℕ) → TokensWithin count gathered.now → VerdictWithin count v) }
-{
-    match gathering {
-        Gathering::All => Ok(Verdict::Yields(gathered.tokens()?)),
-        _ => Ok(Verdict::Refuses(fault_code::FILE_ENDED)),
-    }
-}
-
 // A character belongs to the name of a file, a space ends it, and so does another token.
 fn of_file_name(alloc: Global, gathered: &Gathered, token: Token) -> Result<Verdict<Tokens>, AllocError>
     ensures is { IfOk result (λ v. (texts : Table) → verdict_at texts v ≡ spec_of_file_name (tokens_at texts gathered.now) (token_at texts token)) }
     ensures within { IfOk result (λ v. (count : ℕ) → TokensWithin count gathered.now → VerdictWithin count v) }
 {
     match token {
-        Token::Char(_, category::SPACE) => {
-            let name = gathered.file_part(alloc)?;
-            if name.as_slice().is_empty() {
-                Ok(Verdict::TooShort)
-            } else {
-                Ok(Verdict::Yields(name))
-            }
-        }
+        Token::Char(_, category::SPACE) => Ok(begun_name(gathered.file_part(alloc)?)),
         Token::Char(_, _) => Ok(Verdict::TooShort),
         _ => Ok(Verdict::Yields(gathered.file_part(alloc)?)),
+    }
+}
+
+// The name is complete, if it has begun.
+fn begun_name(name: Tokens) -> Verdict<Tokens>
+    ensures is { (texts : Table) → verdict_at texts result ≡ named_file (tokens_at texts name) Verdict.TooShort }
+    ensures within { (count : ℕ) → TokensWithin count name → VerdictWithin count result }
+{
+    if name.as_slice().is_empty() {
+        Verdict::TooShort
+    } else {
+        Verdict::Yields(name)
     }
 }
 
