@@ -6,7 +6,7 @@ use Rattle.texml_token.specs.declared.tokens.Token.{Token as TokenCode}
 use Rattle.texml_token.specs.Numbers.{Table, tokens_at, TokensWithin}
 use Rattle.texml_token.proofs.Table.{extends_refl}
 use Rattle.texml_input.specs.Rest.{Item, Tok, Frozen, Text, item_at, items_at, has_text, end_text, end_rests}
-use Rattle.texml_input.specs.Held.{Held as HeldInput, Source, Plain, Marked, File, Fence, rest_of, aside_of, rest_at, ids_of, room_of, SourceWithin, SourcesWithin, end_first}
+use Rattle.texml_input.specs.Held.{Held as HeldInput, Source, Plain, Marked, File, Fence, rest_of, aside_of, ids_of, room_of, SourceWithin, SourcesWithin, end_first}
 use Rattle.texml_input.proofs.Sources.{aside_put, ids_put, room_put, within_put}
 use Rattle.texml_input.proofs.Standing.{rest_tokens, rests_ended}
 use Rattle.texml_expand.specs.State.{State}

@@ -21,7 +21,6 @@ use Rattle.texml_expand.specs.declared.engine.including.TheConstants.{MOST_FILES
 use Rattle.texml_expand.specs.declared.stop.Stop.{Stop}
 use Rattle.texml_expand.specs.declared.stop.Stop.TheVariants as stop
 use Rattle.texml_expand.specs.State.{State, Tex, nothing, Ended, Reading, ◌>>=◌, tell, fault_at}
-use Rattle.texml_expand.specs.Calls.{Gift, Opens}
 use Rattle.texml_expand.specs.Begin.{finish, finished, record_of}
 use Rattle.texml_expand.specs.Include.{texts, open_texts, whole_text, found, opening}
 use Rattle.texml_expand.specs.Contract.{Outside, outside, Stops, IsFaultAt}
@@ -29,10 +28,9 @@ use Rattle.texml_expand.specs.Hearing.{Meets}
 use Rattle.texml_expand.specs.Held.{Held, place_of, state_of, Sound, Kept, Progress, IsAtLimit, Owns, Holding, SameFiles, Passes}
 use Rattle.texml_expand.specs.Doing.{Tells}
 use Rattle.texml_expand.proofs.Doing.{Did, did_by, did_fault, did_out}
-use Rattle.texml_expand.proofs.Fronts.{kept_itself}
 use Rattle.texml_expand.proofs.Meeting.{meets_silent, meets_quiet, part_untold}
 use Rattle.texml_expand.proofs.Progress.{progress_then, progress_stopped}
-use Rattle.texml_expand.proofs.Running.{holding_then, holding_same, files_stopped, keeps_then, runs_fault, runs_out}
+use Rattle.texml_expand.proofs.Running.{holding_then, holding_same, files_stopped, runs_fault}
 use Rattle.texml_expand.proofs.Taking.{silent_fault}
 
 -- How many texts are open

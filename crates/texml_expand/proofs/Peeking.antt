@@ -1,5 +1,5 @@
 -- A token behind spaces is looked at, and what goes back is what was taken.
-use Rattle.std.proofs.Common.{◌≡◌, List, length, Option, None, Some, Result, Ok, Err, refl, sym, ap, subst}
+use Rattle.std.proofs.Common.{◌≡◌, length, Option, None, Some, Ok, Err, refl, sym, ap, subst}
 use Rattle.std.specs.Option.{option_map}
 use Rattle.texml_token.specs.Numbers.{Table, Extends, OptionWithin}
 use Rattle.texml_token.proofs.Translation.{token_kept}

@@ -1,4 +1,4 @@
-use Rattle.std.proofs.Common.{◌≡◌, rules, Ok, sym, subst}
+use Rattle.std.proofs.Common.{rules}
 use Rattle.texml_token.specs.Numbers.{tokens_at}
 use Rattle.texml_expand.specs.State.{change}
 use Rattle.texml_expand.specs.Arguments.{read_argument}

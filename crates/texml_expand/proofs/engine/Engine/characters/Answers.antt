@@ -1,5 +1,4 @@
-use Rattle.std.proofs.Common.{◌≡◌, ◌∙◌, Bool, true, false, if◌then◌else◌, [], List, ℕ, ap, sym, subst, string_bytes}
-use Rattle.texml_base.specs.Outside.{Shelf}
+use Rattle.std.proofs.Common.{◌∙◌, Bool, if◌then◌else◌, [], List, ℕ, ap, sym, subst, string_bytes}
 use Rattle.texml_token.specs.Numbers.{tokens_at}
 use Rattle.texml_token.specs.declared.fault_code.TheConstants.{MISSING_ENDCSNAME}
 use Rattle.texml_expand.specs.State.{Reading, give, fail}

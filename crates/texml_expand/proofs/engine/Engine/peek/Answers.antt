@@ -1,4 +1,4 @@
-use Rattle.std.proofs.Common.{◌≡◌, rules}
+use Rattle.std.proofs.Common.{rules}
 use Rattle.texml_expand.proofs.Peeking.{peeked_gets, peeked_stops}
 use Rattle.texml_expand.proofs.engine.Engine.peek.Goals as goal
 

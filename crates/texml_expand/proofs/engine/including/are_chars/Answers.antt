@@ -1,4 +1,4 @@
-use Rattle.std.proofs.Common.{◌≡◌, ◌∙◌, ◌&&◌, true, ap, ap₂, sym, take, take_all}
+use Rattle.std.proofs.Common.{◌∙◌, ◌&&◌, true, ap, ap₂, sym, take, take_all}
 use Rattle.std.specs.List.{list_all}
 use Rattle.std.proofs.lemmas.List.{map_more}
 use Rattle.std.proofs.lemmas.List.Folds.{list_all-append, list_all_at, list_all-map}

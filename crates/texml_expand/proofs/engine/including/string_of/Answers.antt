@@ -1,4 +1,4 @@
-use Rattle.std.proofs.Common.{◌≡◌, ◌∙◌, ◌++◌, [], ◌∷◌, ap, ap₂, sym, subst, take, take_all, append-nil, encode_utf8_all}
+use Rattle.std.proofs.Common.{◌∙◌, ◌++◌, ap, ap₂, sym, subst, take, take_all, append-nil, encode_utf8_all}
 use Rattle.std.specs.List.{All}
 use Rattle.std.specs.Char.{IsScalar, encode_utf8}
 use Rattle.std.proofs.lemmas.Str.{encodes-append}
