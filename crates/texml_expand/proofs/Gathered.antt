@@ -130,7 +130,7 @@ module _ {T : Type 0} (hear part : T → Record → T → Type 0) (k : Gathering
       let e = did_silent hear part (change (left k x) s) (Ok tt) mid new m b (local m.shelf) kept tt keeps progress files d.holds.owns in
       let all = tokens_at mid.names list in
       let done = gather_left all t (Ok all) old now mid new f g m a b seen i d is
-          (did_then hear part (change (left k x) s) (λ _. give all) tt (Ok all) mid new new m m m b b b e (did_now hear part all new m b keeps.sound kept e.holds.owns)) in
+      (did_then hear part (change (left k x) s) (λ _. give all) tt (Ok all) mid new new m m m b b b e (did_now hear part all new m b keeps.sound kept e.holds.owns)) in
       subst (λ texts. Does hear part (λ n. (level n).gather k []) (Ok (tokens_at texts list)) old new f m a b) (sym names) done
 
   pub gather_refuses : (code : ℕ) (e : Stop) (t : Read) (old now mid new : Held) (f g m : Outside) (a b : T) (seen : List TokenCode) → Gathers old f a seen now g b

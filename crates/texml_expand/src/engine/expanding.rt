@@ -41,8 +41,8 @@ use texml_fixed::Scaled;
 use texml_input::Read;
 use texml_scan::{DimenScan, Held, IntScan, Look, looked_at};
 use texml_scope::builtins::{
-    CSNAME, ELSE, ENDINPUT, EXPANDAFTER, FI, INPUT, JOBNAME, NOEXPAND, NUMBER, OR, ROMANNUMERAL, STRING,
-    THE,
+    CSNAME, ELSE, ENDINPUT, EXPANDAFTER, FI, INPUT, JOBNAME, NOEXPAND, NUMBER, OR, ROMANNUMERAL,
+    STRING, THE,
 };
 use texml_scope::{Macro, Meaning};
 use texml_token::{Bytes, Name, Token, Tokens, fault_code, show, spell};

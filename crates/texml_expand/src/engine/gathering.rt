@@ -304,7 +304,11 @@ impl Engine {
 }
 
 // A character belongs to the name of a file, a space ends it, and so does another token.
-fn of_file_name(alloc: Global, gathered: &Gathered, token: Token) -> Result<Verdict<Tokens>, AllocError>
+fn of_file_name(
+    alloc: Global,
+    gathered: &Gathered,
+    token: Token,
+) -> Result<Verdict<Tokens>, AllocError>
     ensures is { IfOk result (λ v. (texts : Table) → verdict_at texts v ≡ spec_of_file_name (tokens_at texts gathered.now) (token_at texts token)) }
     ensures within { IfOk result (λ v. (count : ℕ) → TokensWithin count gathered.now → VerdictWithin count v) }
 {
