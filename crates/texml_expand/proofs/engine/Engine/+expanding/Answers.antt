@@ -17,7 +17,7 @@ use Rattle.texml_expand.specs.Hearing.{hears, hears_part}
 use Rattle.texml_expand.proofs.Lawful.{lawful_give, lawful_scan, lawful_fetch}
 use Rattle.texml_expand.proofs.Looking.{lawful_character, lawful_register, value, lawful_value, lawful_index, lawful_look, lawful_key, lawful_internal_of, lawful_internal, counts, lawful_counts, lawful_take}
 use Rattle.texml_expand.proofs.Doing.{by_new, did_silent, did_gets, does_silent, does_gets, does_as, does_now, does_stop, does_then, does_out, does_fault, did_out}
-use Rattle.texml_expand.proofs.Rounds.{index_as, front_did, given_as, begins_did, finish_did, expand_stops, expand_ungiven, expand_ends, fetch_stops, fetch_ends, fetch_plain, fetching_on, fetch_unexpanded, looked_as}
+use Rattle.texml_expand.proofs.Rounds.{expand_unnamed, expand_opens, index_as, front_did, given_as, begins_did, finish_did, expand_stops, expand_ungiven, expand_ends, fetch_stops, fetch_ends, fetch_plain, fetching_on, fetch_unexpanded, looked_as}
 use Rattle.texml_scope.specs.Numbers.{key_at, meaning_at}
 use Rattle.texml_expand.specs.VariableCodes.{internal_at}
 use Rattle.texml_expand.specs.declared.machine.Value.TheVariants as worths
@@ -30,7 +30,7 @@ use Rattle.texml_expand.specs.Take.{take}
 use Rattle.texml_expand.specs.Doing.{Does}
 use Rattle.texml_expand.proofs.Total.{total}
 use Rattle.texml_expand.proofs.Progress.{progress_itself}
-use Rattle.texml_expand.proofs.Fronts.{kept_itself, begun_kept}
+use Rattle.texml_expand.proofs.Fronts.{kept_itself, begun_kept, opened_begun}
 use Rattle.texml_scan.specs.Looked.{look_of}
 use Rattle.texml_scan.specs.declared.looks.Held.TheVariants.{Nothing}
 use Rattle.texml_expand.proofs.Stopping.{passed_on}
@@ -862,7 +862,7 @@ expand-given-requires g t c κs within =
     let token = subst (λ (h : Held). TokenWithin (length h.names) c.args.token) (sym b.is) c.requires.token in
     let nesting = ap (λ (h : Held). h.nesting) b.is in
     let deep = b.nested in
-    (omega (arith, c.decreases, nesting, deep), (within.0, (within.1, (b.kept, (kept.sound, (owns, (token, found)))))))
+    (omega (arith, c.decreases, nesting, deep), (within.0, (within.1, (b.kept, (kept.sound, (owns, (token, (found, c.opens_file.ensures.no c.if-opens_file.false))))))))
 
 pub the-returns-clause-lower : goal.the-returns-clause-lower
 the-returns-clause-lower g t c = ok_same c.shown.result 0 _ _ _ c.next_internal.new.self c.shown.new.self c.in_ok-internal.ensures.lower c.shown.ensures.same
@@ -1610,3 +1610,57 @@ all_left-returns-in_err-list-clause-does g t c =
     let F = g.F.Files in
     let h = left_stops (hears T.wanting T.heard) (hears_part T.wanting T.part) _ _ _ _ _ _ _ c.in_err-list.ensures.does in
     search (rules, h)
+
+-- \input
+
+pub expand-file_name-requires : goal.expand-file_name-requires
+expand-file_name-requires g t c κs within =
+    let b = c.in_ok-begin.ensures in
+    let mine = c.args.self.now in
+    let mid = c.begin.new.self in
+    let kept = begun_kept mine mid b.is b.within c.requires.sound in
+    let owns = owns_same (g.F.Files.shelf c.args.files.now) mine mid c.requires.owns b.files in
+    let nesting = ap (λ (h : Held). h.nesting) b.is in
+    let deep = b.nested in
+    (omega (arith, c.decreases, nesting, deep), (within.0, (within.1, (b.kept, (kept.sound, owns)))))
+
+pub expand-open-requires : goal.expand-open-requires
+expand-open-requires g t c =
+    let b = c.in_ok-begin.ensures in
+    let d = c.in_ok-name.ensures.does in
+    let mine = c.args.self.now in
+    let mid = c.begin.new.self in
+    let now = c.file_name.new.self in
+    let names = subst (λ (h : Held). Extends h.names now.names) b.is d.progress.names in
+    let nesting = ap (λ (h : Held). h.nesting) b.is in
+    let same = c.in_ok-name.ensures.lower.nesting in
+    record { running = d.stops.kept; sound = d.keeps.sound; owns = d.holds.owns; nested = omega (arith, nesting, same); token = token_more (length mine.names) (length now.names) names.longer c.args.token c.requires.token }
+
+pub expand-returns-in_err-name-clause-does : goal.expand-returns-in_err-name-clause-does
+expand-returns-in_err-name-clause-does g t c =
+    let T = g.T.Teller in
+    let F = g.F.Files in
+    let b = c.in_ok-begin.ensures in
+    let mine = c.args.self.now in
+    let d = begins_did (hears T.wanting T.heard) (hears_part T.wanting T.part) _ mine c.begin.new.self (outside (F.shelf c.args.files.now) (F.faults c.args.files.now) (T.faults c.args.tell.now) (T.loan c.args.tell.now)) c.args.tell.now c.requires.sound b.begins b.kept b.is b.within b.limit b.progress b.files c.requires.owns in
+    let is = c.opens_file.ensures.yes c.if-opens_file.true in
+    let h = rw (← is) (expand_unnamed (hears T.wanting T.heard) (hears_part T.wanting T.part) (token_at mine.names c.args.token) _ _ _ _ _ _ _ _ d c.in_err-name.ensures.does) in
+    search (rules, h)
+
+pub expand-returns-then-opens_file-clause-does : goal.expand-returns-then-opens_file-clause-does
+expand-returns-then-opens_file-clause-does g t c =
+    let T = g.T.Teller in
+    let F = g.F.Files in
+    let b = c.in_ok-begin.ensures in
+    let mine = c.args.self.now in
+    let now = c.file_name.new.self in
+    let x = c.in_ok-name.ensures.does in
+    let d = begins_did (hears T.wanting T.heard) (hears_part T.wanting T.part) _ mine c.begin.new.self (outside (F.shelf c.args.files.now) (F.faults c.args.files.now) (T.faults c.args.tell.now) (T.loan c.args.tell.now)) c.args.tell.now c.requires.sound b.begins b.kept b.is b.within b.limit b.progress b.files c.requires.owns in
+    let names = subst (λ (h : Held). Extends h.names now.names) b.is x.progress.names in
+    let u = rw (token_kept mine.names now.names names c.args.token c.requires.token) at c.open.ensures.tells in
+    rw (c.opens_file.ensures.yes c.if-opens_file.true) (expand_opens (hears T.wanting T.heard) (hears_part T.wanting T.part) (token_at mine.names c.args.token) (string_bytes c.in_ok-name.name) _ _ _ _ _ _ _ _ _ _ _ d x u)
+
+pub expand-returns-then-opens_file-clause-begins : goal.expand-returns-then-opens_file-clause-begins
+expand-returns-then-opens_file-clause-begins g t c =
+    let b = c.in_ok-begin.ensures in
+    opened_begun _ _ c.args.self.now c.begin.new.self c.file_name.new.self c.open.new.self c.open.result b.is b.within c.in_ok-name.ensures.lower c.open.ensures.passes
