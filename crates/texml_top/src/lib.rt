@@ -12,6 +12,7 @@ mod digest;
 mod document;
 mod gather;
 mod laws;
+mod notes;
 mod request;
 mod start;
 mod status;
@@ -20,6 +21,7 @@ mod top;
 mod verb;
 
 pub use laws::{gathering_keeps_the_document, one_outcome};
+pub use notes::noted;
 pub use status::Status;
 pub use top::run;
 
