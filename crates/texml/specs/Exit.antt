@@ -7,7 +7,7 @@ use Rattle.texml_base.specs.Outside.{Shelf, Ink}
 use Rattle.texml_top.specs.Request.{asked}
 use Rattle.texml_top.specs.Outcome.{OfOutcome}
 use Rattle.texml_top.specs.Run.{MayEnd, FilesBlamed, SinkBlamed, FitsWords, TouchesNothing}
-use Rattle.texml_top.specs.Notes.{note_of, Noted}
+use Rattle.texml_top.specs.Notes.{Noted}
 use Rattle.texml_top.specs.declared.status.Status.{Status}
 use Rattle.texml_top.specs.declared.status.Status.TheVariants as status
 use Rattle.texml.specs.declared.words.WordsFault.{WordsFault}
@@ -43,7 +43,7 @@ pub record ExitsRun (words : List (List ℕ)) (old new : Outside) (code : ℕ) :
   pub out_cause : SinkBlamed status old.writes new.writes
   pub words_fit : FitsWords (asked words) status
   pub untouched : TouchesNothing (asked words) old.shelf new.shelf old.ink new.ink
-  pub notes : Noted (note_of status) old.notes new.notes old.note_faults new.note_faults
+  pub notes : Noted status old.notes new.notes old.note_faults new.note_faults
   pub closed : new.shelf.ids ≡ []
 
 -- the code is that of this status, which is noted, and nothing was opened or written
@@ -53,7 +53,7 @@ pub record ExitsAtOnce (status : Status) (old new : Outside) (code : ℕ) : Type
   pub reads : new.reads ≡ old.reads
   pub ink : new.ink ≡ old.ink
   pub writes : new.writes ≡ old.writes
-  pub notes : Noted (note_of status) old.notes new.notes old.note_faults new.note_faults
+  pub notes : Noted status old.notes new.notes old.note_faults new.note_faults
 
 -- what the code is for words that were read, or were not
 abbrev pub ExitsFor : Result (Vec (String Global) Global) WordsFault → Outside → Outside → ℕ → Type 0

@@ -1,5 +1,5 @@
 -- The line that is noted for a status.
-use Rattle.std.specs.Prelude.{◌≡◌, ℕ, List, [], ◌∷◌, ◌++◌, take, codes, slice_index_or}
+use Rattle.std.specs.Prelude.{◌≡◌, ◌⊎◌, ℕ, List, [], ◌∷◌, ◌++◌, take, codes, slice_index_or}
 use Rattle.std.specs.Fmt.{decimal}
 use Rattle.texml_base.specs.Outside.{Ink, inked}
 use Rattle.texml_base.specs.Rising.{Rose}
@@ -66,7 +66,10 @@ note_of status.ReadFault = codes "read failed\n"
 note_of status.WriteFault = codes "write failed\n"
 note_of status.NoMemory = codes "out of memory\n"
 
--- a text was noted, or a first part of it where the notes' count of faults rose
-pub record Noted (text : List ℕ) (old new : Ink) (before now : ℕ) : Type 0 where
-  pub first : (n : ℕ) × (new ≡ inked old (take n text))
-  pub whole : (Rose before now → ⊥) → new ≡ inked old text
+-- How the end of a run was noted: by the line of its status, or by a first part of that where the notes' count of faults rose. Where it
+-- didn't rise the count is as before, and so it is at `Done`, which has no line.
+pub record Noted (ended : Status) (old new : Ink) (before now : ℕ) : Type 0 where
+  pub first : (n : ℕ) × (new ≡ inked old (take n (note_of ended)))
+  pub whole : (Rose before now → ⊥) → new ≡ inked old (note_of ended)
+  pub count : (now ≡ before) ⊎ Rose before now
+  pub silent : ended ≡ status.Done → now ≡ before

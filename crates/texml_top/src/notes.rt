@@ -2,6 +2,7 @@
 ghost use Rattle.std.specs.Prelude.{◌≡◌, ◌++◌, codes};
 ghost use Rattle.std.specs.Fmt.{decimal};
 ghost use Rattle.texml_base.specs.Outside.{Takes, HasCause};
+ghost use Rattle.texml_top.specs.declared.status.Status.TheVariants.{Done};
 ghost use Rattle.texml_top.specs.Notes.{note_of, fault_note, model_note, limit_note, spaced, last_word, numbered, placed, model_fault_name, Noted};
 
 use crate::status::Status;
@@ -17,7 +18,7 @@ const USAGE: &[u8] =
 /// written then. It takes no memory.
 pub fn noted<N: Sink>(notes: &mut N, status: Status) -> Status
     ensures is { result ≡ status }
-    ensures notes { Noted (note_of status) (N.ink notes.old) (N.ink notes.new) (N.faults notes.old) (N.faults notes.new) }
+    ensures notes { Noted result (N.ink notes.old) (N.ink notes.new) (N.faults notes.old) (N.faults notes.new) }
 {
     let _ended = note_status(notes, &status);
     status
@@ -27,6 +28,7 @@ pub fn noted<N: Sink>(notes: &mut N, status: Status) -> Status
 fn note_status<N: Sink>(notes: &mut N, status: &Status) -> Result<(), SinkFail>
     ensures written { Takes (N.ink notes.old) (N.ink notes.new) result (note_of status.now) }
     ensures cause { HasCause (N.faults notes.old) (N.faults notes.new) result }
+    ensures silent { status.now ≡ Done → N.faults notes.new ≡ N.faults notes.old }
 {
     match status {
         Status::Done => Ok(()),

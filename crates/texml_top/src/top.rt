@@ -5,7 +5,7 @@ ghost use Rattle.texml_expand.specs.Held.{Sound, Owns, Holding, state_of};
 ghost use Rattle.texml_top.specs.Request.{asked};
 ghost use Rattle.texml_top.specs.Outcome.{OfOutcome, FromState};
 ghost use Rattle.texml_top.specs.Run.{EndsAs, MayEnd, FilesBlamed, SinkBlamed, FitsWords, TouchesNothing, LimitIs, WritesLate, LateAsked, WritesDocument, DocumentAsked, WritesPage, PageAsked, WholeLines, LinesBy, LinesAsked};
-ghost use Rattle.texml_top.specs.Notes.{note_of, Noted};
+ghost use Rattle.texml_top.specs.Notes.{Noted};
 ghost use Rattle.texml_top.specs.declared.request.Command.TheVariants.{Convert, Expand};
 
 use crate::digest::digest;
@@ -57,7 +57,7 @@ pub fn run<F: Files, S: Sink, N: Sink>(
     ensures words { FitsWords (asked (map string_bytes words.now)) result }
     ensures untouched { TouchesNothing (asked (map string_bytes words.now)) (F.shelf files.old) (F.shelf files.new) (S.ink out.old) (S.ink out.new) }
     // The line of the status is noted, or a first part of it where the notes failed.
-    ensures notes { Noted (note_of result) (N.ink notes.old) (N.ink notes.new) (N.faults notes.old) (N.faults notes.new) }
+    ensures notes { Noted result (N.ink notes.old) (N.ink notes.new) (N.faults notes.old) (N.faults notes.new) }
     // No file is left open.
     ensures closed { (F.shelf files.new).ids ≡ [] }
 {
