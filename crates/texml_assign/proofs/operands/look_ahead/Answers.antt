@@ -19,7 +19,7 @@ returns-in_err-token g c =
 pub returns : goal.returns
 returns g c = record {
   does =
-    let mid = c.next_token.new.engine in let t = token_at mid.names c.in_ok-token.token in let r = c.put_back.ensures in
-    does_put _ _ 1 (λ n. next_token) (λ t. change (put t)) (lawful_plain next_token plain_next) (λ t s. tt) (λ t s. tt) t c.put_back.result _ mid c.put_back.new.engine _ _ _ _ c.in_ok-token.ensures.does c.in_ok-token.ensures.takes
-    r.changes r.kept r.keeps r.advances r.files r.puts;
+      let mid = c.next_token.new.engine in let t = token_at mid.names c.in_ok-token.token in let r = c.put_back.ensures in
+      does_put _ _ 1 (λ n. next_token) (λ t. change (put t)) (lawful_plain next_token plain_next) (λ t s. tt) (λ t s. tt) t c.put_back.result _ mid c.put_back.new.engine _ _ _ _ c.in_ok-token.ensures.does c.in_ok-token.ensures.takes
+      r.changes r.kept r.keeps r.advances r.files r.puts;
 }
