@@ -1,18 +1,18 @@
 -- Each command has one answer, and leaves no more to be read.
-use Rattle.std.proofs.Common.{◌≡◌, ℕ, true, false, if◌then◌else◌, [], length, Option, Some, None, refl, ap, arith}
-use Rattle.std.specs.Option.{option_map, option_to_list}
+use Rattle.std.proofs.Common.{◌≡◌, true, false, if◌then◌else◌, [], length, Option, Some, None, refl, ap, arith}
+use Rattle.std.specs.Option.{option_to_list}
 use Rattle.texml_token.specs.Token.{Token}
 use Rattle.texml_token.specs.declared.fault_code.TheConstants.{BAD_PREFIX}
 use Rattle.texml_scope.specs.declared.values.KindOf.TheVariants.{Begin}
 use Rattle.texml_expand.specs.State.{State, give, fail, change}
-use Rattle.texml_expand.specs.Expand.{back, fetch}
+use Rattle.texml_expand.specs.Expand.{back}
 use Rattle.texml_expand.specs.Contract.{Lower}
-use Rattle.texml_expand.specs.Rest.{Tok}
+use Rattle.texml_input.specs.Rest.{Tok}
 use Rattle.texml_expand.proofs.Items.{size-cons}
 use Rattle.texml_expand.proofs.Leading.{lower_none}
 use Rattle.texml_assign.specs.declared.table.Prefix.{Prefix as PrefixWord}
 use Rattle.texml_assign.specs.declared.table.Command.{Command as CommandWord}
-use Rattle.texml_assign.specs.declared.table.Command.TheVariants.{Relax, Def, Gdef, Let, BeginGroup, EndGroup, AfterGroup, AfterAssignment, NewCommand, Assign, Short, Arithmetic}
+use Rattle.texml_assign.specs.declared.table.Command.TheVariants.{Relax, Def, Gdef, Edef, Xdef, Let, BeginGroup, EndGroup, AfterGroup, AfterAssignment, NewCommand, NewIf, ChangeCase, IgnoreSpaces, Assign, Short, Arithmetic}
 use Rattle.texml_assign.specs.declared.table.Executable.{Executable}
 use Rattle.texml_assign.specs.declared.table.Executable.TheVariants.{Prefix, Command}
 use Rattle.texml_assign.specs.declared.table.Prefixes.{Prefixes}
@@ -27,8 +27,11 @@ use Rattle.texml_assign.specs.Sets.{begin_kind, end_kind, read_after, keep, keep
 use Rattle.texml_assign.specs.Execute.{row, behind, perform, followed, prefix_word, prefix_turn, prefix_loop, prefixed, execute_prefixed, execute_word, execute_by, execute}
 use Rattle.texml_assign.proofs.Readings.{Lawful, Plain, lawful_plain, lawful_by, lawful_then, plain_by, plain_give, plain_fail, plain_change, plain_if}
 use Rattle.texml_assign.proofs.Looping.{LawfulLoop, lawful_loop}
-pub use Rattle.texml_assign.proofs.Parts.{plain_after_assignment, body_taken, head_taken, key_taken, lawful_assigned, lawful_key_taken, lawful_meant, lawful_spaces, meant_behind, plain_absorb, plain_after_group, plain_assign, plain_begin, plain_behind_equals, plain_behind_sign, plain_behind_space, plain_body_said, plain_by_least, plain_defined, plain_end, plain_head_taken, plain_key_of, plain_look_ahead, plain_meaning_now, plain_meant_behind, plain_needed, plain_needed_body, plain_next, plain_next_body, plain_next_key, plain_parameter_text, plain_space_turn, plain_take, plain_token_or_end, plain_with_token, same_room, space_is, spaces_laws, text_taken, token_takes}
-use Rattle.texml_assign.proofs.Quantities.{lawful_fetch, fetch_leads, lawful_assignment, lawful_short_name, lawful_arithmetic}
+pub use Rattle.texml_assign.proofs.Parts.{plain_after_assignment, body_taken, head_taken, key_taken, lawful_absorb, lawful_assigned, lawful_body_said, lawful_body_taken, lawful_defined, lawful_head_taken, lawful_key_taken, lawful_meant, lawful_next_body, lawful_spaces, meant_behind, plain_after_group, plain_assign, plain_begin, plain_behind_equals, plain_behind_sign, plain_behind_space, plain_body_said, plain_by_least, plain_end, plain_key_of, plain_look_ahead, plain_meaning_now, plain_meant_behind, plain_needed, plain_needed_body, plain_next, plain_next_key, plain_parameter_text, plain_space_turn, plain_take, plain_token_or_end, plain_with_token, same_room, space_is, spaces_laws, text_taken}
+use Rattle.texml_assign.specs.NewIf.{new_if}
+use Rattle.texml_assign.proofs.NewConditionals.{plain_new_if}
+use Rattle.texml_assign.proofs.LetterCases.{lawful_change_case}
+use Rattle.texml_assign.proofs.Quantities.{lawful_fetch, fetch_leads, lawful_ignore_spaces, lawful_assignment, lawful_short_name, lawful_arithmetic}
 use Rattle.texml_assign.proofs.NewCommands.{lawful_new_command}
 
 -- Rows
@@ -39,7 +42,7 @@ put_kept_lower s (Some t) e =
     same_room s (back t false (keep None s)) refl refl refl
     (let one = ap (λ o. length (option_to_list o)) e in omega (arith, one, size-cons (Tok t) s.rest))
 
-plain_put_kept : Plain (change put_kept)
+pub plain_put_kept : Plain (change put_kept)
 plain_put_kept = plain_change put_kept (λ s. put_kept_lower s s.kept refl)
 
 pub plain_behind : (c : CommandWord) → Plain (behind c)
@@ -47,14 +50,19 @@ plain_behind c = plain_if (is_assignment c) (change put_kept) (give tt) plain_pu
 
 pub lawful_row : (p : Prefixes) (c : CommandWord) → Lawful (row p c)
 lawful_row p Relax = lawful_plain (give tt) (plain_give tt)
-lawful_row p Def = lawful_assigned p.global (λ n. defined p.long) (lawful_plain (defined p.long) (plain_defined p.long))
-lawful_row p Gdef = lawful_assigned true (λ n. defined p.long) (lawful_plain (defined p.long) (plain_defined p.long))
+lawful_row p Def = lawful_assigned p.global (defined false p.long) (lawful_defined false p.long)
+lawful_row p Gdef = lawful_assigned true (defined false p.long) (lawful_defined false p.long)
+lawful_row p Edef = lawful_assigned p.global (defined true p.long) (lawful_defined true p.long)
+lawful_row p Xdef = lawful_assigned true (defined true p.long) (lawful_defined true p.long)
 lawful_row p Let = lawful_assigned p.global meant lawful_meant
 lawful_row p BeginGroup = lawful_plain (begin_kind Begin) (plain_begin Begin)
 lawful_row p EndGroup = lawful_plain (end_kind Begin) (plain_end Begin)
 lawful_row p AfterGroup = lawful_plain (with_token read_after) plain_after_group
 lawful_row p AfterAssignment = lawful_plain (with_token keep_token) plain_after_assignment
 lawful_row p (NewCommand naming) = lawful_new_command naming
+lawful_row p NewIf = lawful_plain new_if plain_new_if
+lawful_row p (ChangeCase case) = lawful_change_case case
+lawful_row p IgnoreSpaces = lawful_ignore_spaces
 lawful_row p (Assign target) = lawful_assignment p.global target
 lawful_row p (Short what) = lawful_short_name p.global what
 lawful_row p (Arithmetic what) = lawful_arithmetic p.global what

@@ -18,7 +18,7 @@ use Rattle.texml_expand.proofs.Least.{choose_yes, choose_no}
 use Rattle.texml_token.specs.declared.fault_code.TheConstants.{UNDEFINED, NAME_TAKEN}
 use Rattle.texml_scope.specs.Texts.{Key, Meaning}
 use Rattle.texml_scope.specs.declared.values.MeaningOf.TheVariants.{Macro}
-use Rattle.texml_expand.specs.Next.{Taken}
+use Rattle.texml_input.specs.Next.{Taken}
 use Rattle.texml_expand.specs.State.{State, room, Reading, chain, give, fail, change}
 use Rattle.texml_expand.specs.Expand.{spelling}
 use Rattle.texml_expand.specs.Arguments.{past_space, past_spaces, is_sign, no_sign, sign_or_back, sign, open_bracket, behind_bracket, read_argument, read_optional}

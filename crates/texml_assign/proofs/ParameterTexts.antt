@@ -2,7 +2,7 @@
 use Rattle.std.proofs.Common.{◌≡◌, ◌+◌, ◌-◌, ◌≤◌, ◌==◌, ◌&&◌, ℕ, Bool, true, false, if◌then◌else◌, List, [], ◌∷◌, ◌++◌, drop, get_or, ◌<◌, append_assoc, Option, Some, None, Result, Ok, Err, refl, sym, ap, ◌∙◌, subst, arith}
 use Rattle.std.specs.Prelude.{nat_le, length}
 use Rattle.std.specs.Option.{option_map}
-use Rattle.std.specs.Result.{IfOk}
+use Rattle.std.specs.Result.{IfOk, OnOk}
 use Rattle.std.proofs.lemmas.List.{map-append, at_drop_more, drop_all}
 use Rattle.std.proofs.lemmas.List.Elements.{All-nil, All-cons, All-head, All-tail, All-push}
 use Rattle.texml_token.specs.Token.{Token, Char, has_category}
@@ -17,9 +17,10 @@ use Rattle.texml_token.specs.declared.fault_code.TheConstants.{BAD_PARAMETER, MI
 use Rattle.texml_expand.specs.declared.stop.Stop.{Stop}
 use Rattle.texml_expand.specs.declared.feeding.Verdict.{Verdict}
 use Rattle.texml_expand.specs.declared.feeding.Verdict.TheVariants.{TooShort, Yields, Refuses}
-use Rattle.texml_expand.specs.State.{State}
-use Rattle.texml_expand.specs.Held.{Held}
-use Rattle.texml_expand.specs.Feeding.{IsFed, Feeds}
+use Rattle.texml_expand.specs.Held.{Held, Shrinks}
+use Rattle.texml_base.specs.Outside.{Shelf}
+use Rattle.texml_assign.proofs.Doing.{no_more}
+use Rattle.texml_expand.specs.Feeding.{IsFed, FedBy, Judge}
 use Rattle.texml_expand.proofs.Least.{choose_yes, choose_no}
 use Rattle.texml_expand.proofs.Fed.{verdict_at, Agrees}
 use Rattle.texml_assign.specs.Parameters.{digit, is_number, Head, head, with_piece, is_mark, plain_piece, marked_piece, text_from, text_of, head_at, marked_token, with_first, body_of}
@@ -253,11 +254,16 @@ module _ (texts : Table) (count : ℕ) where
       (λ few k x. text_within (1 + n) ts k few (All-tail (TokenWithin count) u ts rest) x)
       (λ k x. text_within n (u ∷ ts) k le rest x)
 
-pub feeds_within : (so_far : TextSoFar) → so_far ≡ record { pieces = []; slots = 0; marked = false } → (r : Result (Head TokenCode) Stop) (old : State) (new : Held) → Feeds (judge_text so_far) old r new → IfOk r (HeadWithin (length new.names) 0)
-feeds_within so_far e (Ok h) old new f =
-    text_within new.names (length new.names) 0 f.list h (omega arith) f.seen.within
+pub feeds_within : (so_far : TextSoFar) → so_far ≡ record { pieces = []; slots = 0; marked = false } → (r : Result (Head TokenCode) Stop) (a b : Shelf) (old new : Held) → IfOk r (λ h. FedBy (judge_text so_far) h a old b new)
+    → IfOk r (HeadWithin (length new.names) 0)
+feeds_within so_far e (Ok h) a b old new f =
+    text_within new.names (length new.names) 0 f.list h (omega arith) f.within
     (sym (pieces_none (text_from (token_at new.names) 0 f.list)) ∙ ap (λ s. judge_text s new.names f.list) (sym e) ∙ f.is)
-feeds_within so_far e (Err x) old new f = tt
+feeds_within so_far e (Err x) a b old new f = tt
+
+pub fed_less : {V : Type 0} (judge : Judge V) (r : Result V Stop) (a b : Shelf) (old new : Held) → IfOk r (λ v. FedBy judge v a old b new) → OnOk r (Shrinks 0 a old b new)
+fed_less judge (Ok v) a b old new f = no_more f.shrinks
+fed_less judge (Err e) a b old new f = tt
 
 -- Bodies
 

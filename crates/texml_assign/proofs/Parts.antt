@@ -1,24 +1,24 @@
 -- The parts of commands: each has one answer, and leaves no more to be read.
-use Rattle.std.proofs.Common.{◌≡◌, ◌+◌, ℕ, zero, suc, Bool, true, false, if◌then◌else◌, List, [], ◌∷◌, length, length-append, map, ◌++◌, ◌≤◌, Option, Some, None, Ok, Err, refl, sym, ap, ◌∙◌, arith}
+use Rattle.std.proofs.Common.{◌≡◌, ◌+◌, ℕ, zero, suc, Bool, true, false, if◌then◌else◌, List, [], ◌∷◌, length, ◌++◌, ◌≤◌, Option, Some, None, Ok, Err, refl, sym, ap, ◌∙◌, arith}
 use Rattle.std.specs.List.{sum_by}
 use Rattle.std.proofs.lemmas.List.Sums.{sum_by-cons}
 use Rattle.texml_token.specs.Token.{Token, Active, Named}
 use Rattle.texml_scope.specs.declared.values.FaultOf.TheVariants.{WrongGroup}
-use Rattle.texml_scope.specs.Groups.{Open, put_below, begin_group, keep_in, end_in}
+use Rattle.texml_scope.specs.Groups.{Open, begin_group, end_in}
 use Rattle.texml_scope.specs.Texts.{Key, Kind, Value, Meaning, key_eq, kind_eq}
 use Rattle.texml_scope.specs.declared.values.MeaningOf.TheVariants.{Macro}
 use Rattle.texml_scope.specs.declared.values.ValueOf.TheVariants.{Means}
-use Rattle.texml_expand.specs.Next.{Taken, Given, Got, AtEnd, Invalid, next}
-use Rattle.texml_expand.specs.Codes.{cats_of, end_of}
+use Rattle.texml_input.specs.Next.{Taken, Given, Got, AtEnd, Invalid, NotUtf8, next}
+use Rattle.texml_input.specs.Codes.{cats_of, end_of}
 use Rattle.texml_expand.specs.Absorb.{absorbed, absorb}
 use Rattle.texml_expand.specs.Least.{inside_if, inside, inner_token, next_tokens, least, is_enough, decided, by_least}
 use Rattle.texml_expand.specs.declared.feeding.Verdict.{Verdict}
 use Rattle.texml_expand.specs.declared.feeding.Verdict.TheVariants.{TooShort, Yields, Refuses}
-use Rattle.texml_expand.proofs.Least.{Takes, take_takes, Decides, by_least_decided, by_least_leads}
+use Rattle.texml_expand.proofs.Least.{Decides, by_least_decided, by_least_leads}
 use Rattle.texml_expand.specs.State.{State, nothing, room, Done, Reading, chain, IsDecided, give, change}
 use Rattle.texml_expand.specs.Expand.{take_given, take, back, put}
 use Rattle.texml_expand.specs.Contract.{Lower}
-use Rattle.texml_expand.specs.Rest.{Tok}
+use Rattle.texml_input.specs.Rest.{Tok}
 use Rattle.texml_expand.proofs.Items.{size-cons, size_put}
 use Rattle.texml_expand.proofs.Leading.{Leads, leads_chain, leads_weaker, lower_none, lower_then, count, take_leads}
 use Rattle.texml_expand.proofs.Deciding.{any, chain_decided, take_decided}
@@ -29,7 +29,9 @@ use Rattle.texml_assign.specs.Operands.{needed, next_token, token_of, token_or_e
 use Rattle.texml_assign.specs.Parameters.{Head, text_of, body_of}
 use Rattle.texml_assign.specs.Define.{parameter_text, needed_body, body_said, next_body, macro_of, defined, assigned}
 use Rattle.texml_assign.specs.Sets.{set, assign, begin_kind, ended, end_kind, read_after, keep_token}
-use Rattle.texml_assign.proofs.Readings.{IsUnlimited, unlimited_chain, Lawful, Plain, lawful_plain, lawful_then, plain_by, plain_give, plain_fail, plain_change, plain_if, plain_then}
+use Rattle.texml_expand.proofs.Lawful.{absorb_lawful}
+use Rattle.texml_assign.proofs.Rooms.{below_room, keep_room}
+use Rattle.texml_assign.proofs.Readings.{IsUnlimited, unlimited_chain, Lawful, Plain, lawful_calls, lawful_plain, lawful_then, plain_by, plain_give, plain_fail, plain_change, plain_if, plain_then}
 use Rattle.texml_assign.proofs.Looping.{LawfulLoop, lawful_loop}
 
 -- a state of which no more is to be read
@@ -39,9 +41,10 @@ same_room s t limit nesting begun less = record { limit = limit; nesting = nesti
 -- Tokens
 
 given_unlimited : (s : State) (g : Given) → IsUnlimited (take_given g s)
-given_unlimited s (Got t rest place) = tt
-given_unlimited s (AtEnd place) = tt
-given_unlimited s (Invalid c place) = tt
+given_unlimited s (Got t rest place bytes) = tt
+given_unlimited s (AtEnd place bytes) = tt
+given_unlimited s (Invalid c place bytes) = tt
+given_unlimited s (NotUtf8 place bytes) = tt
 
 pub plain_take : Plain take
 plain_take = record { decided = take_decided; unlimited = λ s. given_unlimited s (next (cats_of s.world) (end_of s.world) s.rest s.place); falls = λ s. leads_weaker (λ o t. Lower (count o) s t) (λ o t. Lower 0 s t) (take s) (λ o t g. lower_then (count o) 0 0 s t t g (lower_none t) (omega arith)) (take_leads s) }
@@ -67,10 +70,6 @@ plain_next_key = plain_then next_token key_of plain_next plain_key_of
 count_of : (o : Option Taken) → count (token_of o) ≡ count o
 count_of None = refl
 count_of (Some t) = refl
-
--- each token that is taken leaves less to be read, and no expansion begins
-pub token_takes : (s : State) → Leads (λ o t. Takes (count o) s t) (token_or_end s)
-token_takes s = leads_chain (λ o t. Takes (count o) s t) (λ o t. Takes (count o) s t) (take s) (λ o. give (token_of o)) (take_takes s) (λ o t low. rw (count_of o) low)
 
 token_lowers : (s : State) → Leads (λ o t. Lower (count o) s t) (token_or_end s)
 token_lowers s = leads_chain (λ o t. Lower (count o) s t) (λ o t. Lower (count o) s t) (take s) (λ o. give (token_of o)) (take_leads s) (λ o t low. rw (count_of o) low)
@@ -118,18 +117,11 @@ lawful_meant = lawful_then behind_spaces (λ t n. meant_behind t) lawful_spaces 
 
 -- Sets
 
--- the after-tokens of groups stay where a value is set in all of them
-below_room : (k : Key) (v : Value) (gs : List (Open Key Value Token Kind)) → sum_by (λ (g : Open Key Value Token Kind). length g.after) (map (put_below key_eq k v) gs) ≡ sum_by (λ (g : Open Key Value Token Kind). length g.after) gs
-below_room k v [] = refl
-below_room k v (g ∷ gs) =
-    let again = below_room k v gs in
-    omega (arith, again, sum_by-cons (λ (o : Open Key Value Token Kind). length o.after) (put_below key_eq k v g) (map (put_below key_eq k v) gs), sum_by-cons (λ (o : Open Key Value Token Kind). length o.after) g gs)
-
 pub plain_set : (global : Bool) (k : Key) (v : Value) → Plain (change (set global k v))
 plain_set global k v = plain_change (set global k v) (λ s. by global s)
   where
     by : (global : Bool) (s : State) → Lower 0 s (set global k v s)
-    by true s = same_room s (set true k v s) refl refl refl (let e = below_room k v s.world.groups in omega arith)
+    by true s = same_room s (set true k v s) refl refl refl (let e = below_room key_eq k v s.world.groups in omega arith)
     by false s = same_room s (set false k v s) refl refl refl (omega arith)
 
 pub plain_assign : (global : Bool) (k : Key) (m : Meaning) → Plain (change (assign global k m))
@@ -146,12 +138,6 @@ pub lawful_assigned : (global : Bool) (meaning : ByDepth Meaning) → Lawful mea
 lawful_assigned global meaning l = lawful_then (λ n. next_key) (key_taken global meaning) (lawful_plain next_key plain_next_key) (lawful_key_taken global meaning l)
 
 -- a token that is read after a group, and one that is read after an assignment
-keep_room : (t : Token) (gs : List (Open Key Value Token Kind)) → sum_by (λ (g : Open Key Value Token Kind). length g.after) (keep_in t gs) ≤ sum_by (λ (g : Open Key Value Token Kind). length g.after) gs + 1
-keep_room t [] = omega arith
-keep_room t (g ∷ gs) =
-    let kept : Open Key Value Token Kind = record { kind = g.kind; after = g.after ++ t ∷ []; below = g.below } in
-    omega (arith, sum_by-cons (λ (o : Open Key Value Token Kind). length o.after) kept gs, sum_by-cons (λ (o : Open Key Value Token Kind). length o.after) g gs, length-append g.after (t ∷ []))
-
 needed_one : (o : Option Token) (s t : State) → Lower (count o) s t → Leads (λ x u. Lower 1 s u) (needed o t)
 needed_one None s t low = tt
 needed_one (Some x) s t low = low
@@ -247,8 +233,9 @@ plain_by_least decide = record {
       unlimited_chain (next_tokens k s) (λ list. decided (decide list)) (tokens_unlimited k s) (λ list t. verdict_unlimited (decide list) t);
 }
 
-pub plain_absorb : Plain absorb
-plain_absorb = plain_by_least absorbed
+pub lawful_absorb : (expanding : Bool) → Lawful (absorb expanding)
+lawful_absorb false = lawful_plain (by_least absorbed) (plain_by_least absorbed)
+lawful_absorb true = lawful_calls _ absorb_lawful
 
 abbrev pub text_taken : Unit {0} → Reading (Head Token)
 text_taken x = by_least text_of
@@ -263,18 +250,24 @@ plain_needed_body (Some body) = plain_give body
 pub plain_body_said : (slots : ℕ) (list : List Token) → Plain (body_said slots list)
 plain_body_said slots list = plain_needed_body (body_of slots list)
 
-pub plain_next_body : (slots : ℕ) → Plain (next_body slots)
-plain_next_body slots = plain_then absorb (body_said slots) plain_absorb (plain_body_said slots)
+pub lawful_body_said : (slots : ℕ) (list : List Token) → Lawful (λ n. body_said slots list)
+lawful_body_said slots list = lawful_plain (body_said slots list) (plain_body_said slots list)
+
+pub lawful_next_body : (expanding : Bool) (slots : ℕ) → Lawful (next_body expanding slots)
+lawful_next_body expanding slots = lawful_then (absorb expanding) (λ list n. body_said slots list) (lawful_absorb expanding) (lawful_body_said slots)
 
 -- what follows a body, and what follows a parameter text
 abbrev pub body_taken : Bool → Head Token → List Token → Reading Meaning
 body_taken long h body = give (Macro (macro_of long h body))
 
-abbrev pub head_taken : Bool → Head Token → Reading Meaning
-head_taken long h s = chain (next_body h.slots s) (body_taken long h)
+pub lawful_body_taken : (long : Bool) (h : Head Token) (body : List Token) → Lawful (λ n. body_taken long h body)
+lawful_body_taken long h body = lawful_plain (body_taken long h body) (plain_give _)
 
-pub plain_head_taken : (long : Bool) (h : Head Token) → Plain (head_taken long h)
-plain_head_taken long h = plain_then (next_body h.slots) (body_taken long h) (plain_next_body h.slots) (λ body. plain_give _)
+abbrev pub head_taken : Bool → Bool → Head Token → ByDepth Meaning
+head_taken expanding long h n s = chain (next_body expanding h.slots n s) (body_taken long h)
 
-pub plain_defined : (long : Bool) → Plain (defined long)
-plain_defined long = plain_then parameter_text (head_taken long) plain_parameter_text (plain_head_taken long)
+pub lawful_head_taken : (expanding long : Bool) (h : Head Token) → Lawful (head_taken expanding long h)
+lawful_head_taken expanding long h = lawful_then (next_body expanding h.slots) (λ body n. body_taken long h body) (lawful_next_body expanding h.slots) (lawful_body_taken long h)
+
+pub lawful_defined : (expanding long : Bool) → Lawful (defined expanding long)
+lawful_defined expanding long = lawful_then (λ n. parameter_text) (head_taken expanding long) (lawful_plain parameter_text plain_parameter_text) (lawful_head_taken expanding long)

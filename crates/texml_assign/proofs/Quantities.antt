@@ -1,11 +1,11 @@
 -- Readings of quantities, and the commands that assign them: each has one answer, and leaves no more to be read.
-use Rattle.std.proofs.Common.{◌≡◌, ◌+◌, ◌≤◌, ◌<◌, ◌^◌, ℕ, ℤ, pos, negsuc, zero, suc, Bool, true, false, nat_le, if◌then◌else◌, List, [], Option, Some, None, Result, Ok, Err, refl, sym, ap, subst, ◌∙◌, arith, codes}
+use Rattle.std.proofs.Common.{◌≡◌, ◌<◌, ◌^◌, ℕ, ℤ, pos, negsuc, zero, suc, Bool, true, false, nat_le, if◌then◌else◌, List, [], Option, Some, None, Result, Ok, Err, refl, sym, ap, subst, ◌∙◌, arith, codes}
 use Rattle.std.specs.Option.{option_map}
 use Rattle.std.specs.Char.{IsScalar}
 use Rattle.texml_token.specs.Token.{Token}
 use Rattle.texml_token.specs.declared.category.TheConstants.{INVALID}
-use Rattle.texml_token.specs.declared.fault_code.TheConstants.{BAD_CODE, MISPLACED, OVERFLOW, MISSING_BRACE, FILE_ENDED}
-use Rattle.texml_scope.specs.Texts.{Key, Meaning, Value}
+use Rattle.texml_token.specs.declared.fault_code.TheConstants.{BAD_CODE, MISPLACED}
+use Rattle.texml_scope.specs.Texts.{Key, Value}
 use Rattle.texml_scope.specs.declared.values.KeyOf.TheVariants as keys
 use Rattle.texml_scope.specs.declared.values.MeaningOf.TheVariants as meanings
 use Rattle.texml_scope.specs.declared.values.ValueOf.TheVariants as values
@@ -21,9 +21,9 @@ use Rattle.texml_expand.specs.declared.variables.Variable.TheVariants as variabl
 use Rattle.texml_expand.specs.VariableCodes.{key_by as key_by_code}
 use Rattle.texml_expand.specs.declared.variables.Index.{Index}
 use Rattle.texml_expand.specs.declared.variables.Index.TheVariants as index
-use Rattle.texml_expand.specs.State.{State, room, nothing, Done, Ended, Reading, chain, give, fail, change, IsDecided}
+use Rattle.texml_expand.specs.State.{State, nothing, Done, Reading, chain, give, fail, change, IsDecided}
 use Rattle.texml_expand.specs.Contract.{Lower}
-use Rattle.texml_expand.specs.Rest.{Tok}
+use Rattle.texml_input.specs.Rest.{Tok}
 use Rattle.texml_expand.specs.Absorb.{absorb}
 use Rattle.texml_expand.specs.Variables.{among, key_of, Internal, internal_in, value_of}
 use Rattle.texml_expand.specs.Variables as internals
@@ -31,7 +31,7 @@ use Rattle.texml_expand.specs.Quantities.{Looked, int_text, dimension_text, glue
 use Rattle.texml_expand.specs.Quantities.{read_index as index_by, read_key as key_by}
 use Rattle.texml_expand.specs.Expand.{ByDepth, back, means, level, counted as as_counted, fetch, read_int, read_dimen, read_glue, read_keyword, read_index, read_key, fetched}
 use Rattle.texml_expand.proofs.Items.{size-cons}
-use Rattle.texml_expand.proofs.Leading.{Leads, leads_after, leads_chain, leads_weaker, lower_none, lower_then, lower_less, count}
+use Rattle.texml_expand.proofs.Leading.{Leads, leads_after, leads_chain, leads_weaker, lower_then, lower_less, count}
 use Rattle.texml_expand.proofs.Readings.{mono_chain, mono_same, settles_chain, settles_now}
 use Rattle.texml_expand.proofs.Levels.{level_falls}
 use Rattle.texml_expand.proofs.Lawful.{lawful_scan}
@@ -51,17 +51,17 @@ use Rattle.texml_assign.specs.declared.table.Arithmetic.{Arithmetic}
 use Rattle.texml_assign.specs.declared.table.Arithmetic.TheVariants.{Advance, Multiply, Divide}
 use Rattle.texml_assign.specs.declared.arithmetic.Counted.{Counted}
 use Rattle.texml_assign.specs.declared.arithmetic.Counted.TheVariants.{Number, Dimension, Glue}
-use Rattle.texml_assign.specs.Loop.{Next, On, Over, looped, turned, loops}
-use Rattle.texml_assign.specs.Targets.{variable_in, target_of, target_key, variable_of, is_counted, is_list}
-use Rattle.texml_assign.specs.Fillers.{fills, filler_turn, filler_loop, first_behind, past_equals, optional_equals}
+use Rattle.texml_assign.specs.Loop.{On, Over, looped, turned, loops}
+use Rattle.texml_assign.specs.Targets.{variable_in, target_of, target_key, variable_of, is_counted}
+use Rattle.texml_assign.specs.Fillers.{fills, filler_turn, filler_loop, first_behind, past_equals, optional_equals, put_looked, ignore_spaces}
 use Rattle.texml_assign.specs.Operands.{is_equals, next_key}
 use Rattle.texml_assign.specs.Sets.{set, assign}
 use Rattle.texml_assign.specs.Assignments.{next_number, category_of, next_category, next_code, next_dimension, next_glue, begins_list, needed_start, list_start, value_now, absorbed_list, copied_list, list_from, list_by, next_list, value_for, assign_next, assign_to, assignment}
 use Rattle.texml_assign.specs.ShortNames.{short_index, short_meaning, short_number, short_equals, short_key, short_name}
-use Rattle.texml_assign.specs.Arithmetic.{counted, counted_by, counted_of, next_counted, count_of, count_now, product, quotient, fits, number_sum, dimension_sum, sum_of_glue, by_number, by_dimension, by_glue, advanced, computed, value_from, count_on, count_with, count_by, count_target, arithmetic}
-use Rattle.texml_assign.proofs.Readings.{IsUnlimited, Lawful, Sure, Plain, chained, lawful_calls, lawful_plain, lawful_then, lawful_by, plain_by, plain_give, plain_fail, plain_change, plain_if, plain_then, sure}
+use Rattle.texml_assign.specs.Arithmetic.{counted, counted_of, next_counted, count_of, count_now, product, quotient, fits, number_sum, dimension_sum, sum_of_glue, by_number, by_dimension, by_glue, advanced, computed, value_from, count_on, count_with, count_by, count_target, arithmetic}
+use Rattle.texml_assign.proofs.Readings.{IsUnlimited, Lawful, Sure, Plain, chained, lawful_calls, lawful_plain, lawful_then, plain_by, plain_give, plain_fail, plain_if, plain_then, sure}
 use Rattle.texml_assign.proofs.Looping.{LawfulLoop, lawful_loop}
-use Rattle.texml_assign.proofs.Parts.{kept_lower, plain_absorb, plain_set, plain_assign, plain_next_key, same_room}
+use Rattle.texml_assign.proofs.Parts.{kept_lower, lawful_absorb, plain_set, plain_assign, plain_next_key}
 
 -- What the engine reads
 
@@ -172,12 +172,36 @@ past_leads (Some x) s t low = past_if_leads (is_equals x.counts) x.token s t low
 pub sure_past : (o : Option Looked) → Sure (λ n. past_equals o)
 sure_past o = record { mono = λ s. mono_same (past_equals o s); settles = λ s. settles_now (λ n. past_equals o s) (past_decided o s) }
 
-pub lawful_equals : Lawful optional_equals
-lawful_equals = record {
-  mono = λ s. mono_chain (λ n. first_behind Spaces n s) (λ n o. past_equals o) ((lawful_first Spaces).mono s) (λ o t. (sure_past o).mono t);
-  settles = λ s. settles_chain (λ n. first_behind Spaces n s) (λ n o. past_equals o) ((lawful_first Spaces).mono s) (λ o t. (sure_past o).mono t) ((lawful_first Spaces).settles s) (λ o t gains e. (sure_past o).settles t);
-  falls = λ n s. leads_chain (λ o t. Lower (count o) s t) (λ _ u. Lower 0 s u) (first_behind Spaces n s) past_equals (first_leads Spaces n s) (λ o t low. past_leads o s t low);
+-- a reading that puts back at most what the one before it took
+pub lawful_behind : {A B : Type 0} (P : State → A → State → Type 0) (r : ByDepth A) (f : A → Reading B) → Lawful r → ((n : ℕ) (s : State) → Leads (P s) (r n s)) → ((v : A) → Sure (λ n. f v))
+    → ((v : A) (s t : State) → P s v t → Leads (λ _ u. Lower 0 s u) (f v t)) → Lawful (chained r (λ v n. f v))
+lawful_behind P r f l leads sure falls = record {
+  mono = λ s. mono_chain (λ n. r n s) (λ n v. f v) (l.mono s) (λ v t. (sure v).mono t);
+  settles = λ s. settles_chain (λ n. r n s) (λ n v. f v) (l.mono s) (λ v t. (sure v).mono t) (l.settles s) (λ v t gains e. (sure v).settles t);
+  falls = λ n s. leads_chain (P s) (λ _ u. Lower 0 s u) (r n s) f (leads n s) (λ v t p. falls v s t p);
 }
+
+pub lawful_equals : Lawful optional_equals
+lawful_equals = lawful_behind (λ s o t. Lower (count o) s t) (first_behind Spaces) past_equals (lawful_first Spaces) (first_leads Spaces) sure_past past_leads
+
+-- a token that was looked at goes back
+pub put_decided : (o : Option Looked) (s : State) → IsDecided (put_looked o s)
+put_decided None s = tt
+put_decided (Some x) s = tt
+
+pub put_unlimited : (o : Option Looked) (s : State) → IsUnlimited (put_looked o s)
+put_unlimited None s = tt
+put_unlimited (Some x) s = tt
+
+pub sure_put : (o : Option Looked) → Sure (λ n. put_looked o)
+sure_put o = record { mono = λ s. mono_same (put_looked o s); settles = λ s. settles_now (λ n. put_looked o s) (put_decided o s) }
+
+put_leads : (o : Option Looked) (s t : State) → Lower (count o) s t → Leads (λ _ u. Lower 0 s u) (put_looked o t)
+put_leads None s t low = low
+put_leads (Some x) s t low = past_if_leads false x.token s t low
+
+pub lawful_ignore_spaces : Lawful ignore_spaces
+lawful_ignore_spaces = lawful_behind (λ s o t. Lower (count o) s t) (first_behind Spaces) put_looked (lawful_first Spaces) (first_leads Spaces) sure_put put_leads
 
 -- Numbers, dimensions and glue
 
@@ -234,14 +258,17 @@ plain_value_now k = plain_by (λ s. s.world.top k) give plain_give
 abbrev pub list_value : List Token → Reading Value
 list_value list = give (values.List list)
 
-pub plain_absorbed_list : Plain absorbed_list
-plain_absorbed_list = plain_then absorb list_value plain_absorb (λ list. plain_give _)
+pub lawful_list_value : (list : List Token) → Lawful (λ n. list_value list)
+lawful_list_value list = lawful_plain (list_value list) (plain_give _)
+
+pub lawful_absorbed_list : Lawful absorbed_list
+lawful_absorbed_list = lawful_then (absorb false) (λ list n. list_value list) (lawful_absorb false) lawful_list_value
 
 pub lawful_copied_list : (t : Target) → Lawful (copied_list t)
 lawful_copied_list t = lawful_then (target_key t) (λ k n. value_now k) (lawful_target t) (λ k. lawful_plain (value_now k) (plain_value_now k))
 
 pub lawful_list_from : (start : ListStart) → Lawful (list_from start)
-lawful_list_from Group = lawful_plain absorbed_list plain_absorbed_list
+lawful_list_from Group = lawful_absorbed_list
 lawful_list_from (Register t) = lawful_copied_list t
 
 pub lawful_list_by : (o : Option Looked) → Lawful (list_by o)

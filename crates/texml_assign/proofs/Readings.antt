@@ -1,10 +1,10 @@
 -- Readings by the depth of the calls in them: what some depth decides each deeper one does, some depth decides, and no more is left to be read.
-use Rattle.std.proofs.Common.{◌≡◌, ◌+◌, ℕ, Bool, true, false, if◌then◌else◌, List, Result, Ok, Err, refl, sym, ap, ◌∙◌, subst, arith}
+use Rattle.std.proofs.Common.{ℕ, Bool, true, false, if◌then◌else◌, List, [], Result, Ok, Err, refl, ◌∙◌, subst, arith}
 use Rattle.texml_watch.specs.declared.record.Record.{Record}
 use Rattle.texml_expand.specs.declared.stop.Stop.{Stop}
 use Rattle.texml_expand.specs.declared.stop.Stop.TheVariants as stop
-use Rattle.texml_expand.specs.State.{State, Gains, Tex, Limit, Answer, Done, Ended, Unfinished, Reading, after, chain, IsDecided, give, fail, change}
-use Rattle.texml_expand.specs.Contract.{Lower, DecidesOn, Silent}
+use Rattle.texml_expand.specs.State.{State, Gains, Tex, Limit, Answer, Done, Ended, Unfinished, Reading, after, chain, added, IsDecided, give, fail, change}
+use Rattle.texml_expand.specs.Contract.{Lower, Silent, Quiet}
 use Rattle.texml_expand.specs.Hearing.{Meets, Follows}
 use Rattle.texml_expand.proofs.Leading.{Leads, leads_chain, leads_at, leads_weaker, lower_none, lower_then}
 use Rattle.texml_expand.proofs.Deciding.{any, chain_decided}
@@ -32,6 +32,9 @@ pub record Sure {A : Type 0} (r : ByDepth A) : Type 0 where
 
 pub sure : {A : Type 0} (r : ByDepth A) → Lawful r → Sure r
 sure r l = record { mono = l.mono; settles = l.settles }
+
+pub sure_reading : {A : Type 0} (r : Reading A) → ((s : State) → IsDecided (r s)) → Sure (λ n. r)
+sure_reading r decided = record { mono = λ s. record { grows = λ n m le. grows_refl (r s) }; settles = λ s. record { at = 0; decided = decided s } }
 
 pub sure_change : (f : State → State) → Sure (λ n. change f)
 sure_change f = record { mono = λ s. record { grows = λ n m le. grows_refl (change f s) }; settles = λ s. record { at = 0; decided = tt } }
@@ -135,6 +138,15 @@ module _ {T : Type 0} (hear part : T → Record → T → Type 0) where
   -- a call that asks nothing outside
   pub follows_silent : {A : Type 0} (r : Reading A) → ((s : State) → IsDecided (r s)) → (x : Result A Stop) (s new : State) (a : T) → Silent (r s) x new → Follows hear part (λ n. r s) x new a a
   follows_silent r decided x s new a h = record { answer = r s; given = record { depth = 0; is = refl; decided = decided s }; meets = meets_silent hear part (r s) x new a h }
+
+  -- one that asks files
+  pub follows_quiet : {A : Type 0} (r : Reading A) → ((s : State) → IsDecided (r s)) → (x : Result A Stop) (s new : State) (a : T) → Quiet (r s) x new → Follows hear part (λ n. r s) x new a a
+  follows_quiet r decided (Ok v) s new a h = follows_silent r decided (Ok v) s new a h
+  follows_quiet r decided (Err (stop.Tex f)) s new a h = follows_silent r decided (Err (stop.Tex f)) s new a h
+  follows_quiet r decided (Err (stop.Limit n)) s new a h = follows_silent r decided (Err (stop.Limit n)) s new a h
+  follows_quiet r decided (Err stop.ReadFailed) s new a h = record { answer = r s; given = record { depth = 0; is = refl; decided = decided s }; meets = record { rows = []; more = (added (r s)).records; is = refl; heard = refl } }
+  follows_quiet r decided (Err stop.TellFailed) s new a h = absurd h
+  follows_quiet r decided (Err stop.NoMemory) s new a h = follows_silent r decided (Err stop.NoMemory) s new a h
 
   -- what a reading leads to holds behind a call
   pub follows_leads : {A : Type 0} (P : A → State → Type 0) (r : ByDepth A) (v : A) (s new : State) (a b : T) → ((n : ℕ) → Leads P (r n s)) → Follows hear part (λ n. r n s) (Ok v) new a b → P v new

@@ -1,5 +1,5 @@
 -- Assignments to variables (The TeXbook, chapters 7, 15, 20 and 24): an equals sign, which may be missing, and a value.
-use Rattle.std.specs.Prelude.{ℕ, ℤ, pos, ◌==◌, nat_le, Bool, if◌then◌else◌, [], Option, None, Some}
+use Rattle.std.specs.Prelude.{ℤ, pos, ◌==◌, nat_le, Bool, false, if◌then◌else◌, [], Option, None, Some}
 use Rattle.texml_token.specs.declared.category.TheConstants.{BEGIN_GROUP, INVALID}
 use Rattle.texml_token.specs.declared.fault_code.TheConstants.{FILE_ENDED, MISSING_BRACE}
 use Rattle.texml_scope.specs.Texts.{Key, Meaning, Value}
@@ -75,9 +75,9 @@ list_start (Some x) s = needed_start (begins_list (means s.world x.counts)) s
 abbrev pub value_now : Key → Reading Value
 value_now k s = give (s.world.top k) s
 
-abbrev pub absorbed_list : Reading Value
-absorbed_list = do
-  list ← absorb
+abbrev pub absorbed_list : ByDepth Value
+absorbed_list n = do
+  list ← absorb false n
   give (values.List list)
 
 abbrev pub copied_list : Target → ByDepth Value
@@ -86,7 +86,7 @@ copied_list target n = do
   value_now k
 
 abbrev pub list_from : ListStart → ByDepth Value
-list_from Group = λ n. absorbed_list
+list_from Group = absorbed_list
 list_from (Register target) = copied_list target
 
 abbrev pub list_by : Option Looked → ByDepth Value

@@ -28,21 +28,22 @@ needed_body (Some body) = give body
 abbrev pub body_said : ℕ → List Token → Reading (List Token)
 body_said slots list = needed_body (body_of slots list)
 
--- the body that comes next of a macro with so many parameters, with the brace behind it
-abbrev pub next_body : ℕ → Reading (List Token)
-next_body slots = do
-  list ← absorb
+-- the body that comes next of a macro with so many parameters, with the brace behind it. Its parameters are found when all of it is read, and
+-- expanded where that is asked for
+abbrev pub next_body : Bool → ℕ → ByDepth (List Token)
+next_body expanding slots n = do
+  list ← absorb expanding n
   body_said slots list
 
 -- a macro, long or not. A brace that ends its parameter text stands at the end of its body too
 abbrev pub macro_of : {T : Type 0} → Bool → Head T → List T → MacroBy T
 macro_of long h body = record { long = long; params = record { default = None; pieces = h.pieces }; body = body ++ option_to_list h.brace }
 
--- the macro that a definition gives: a parameter text, and a body in braces
-abbrev pub defined : Bool → Reading Meaning
-defined long = do
+-- the macro that a definition gives: a parameter text, and a body in braces, which is expanded or not
+abbrev pub defined : Bool → Bool → ByDepth Meaning
+defined expanding long n = do
   h ← parameter_text
-  body ← next_body h.slots
+  body ← next_body expanding h.slots n
   give (Macro (macro_of long h body))
 
 -- a name, and the meaning that it has from now on

@@ -1,5 +1,5 @@
 -- Commands that change the world: a row for each (The TeXbook, chapters 20 and 24).
-use Rattle.std.specs.Prelude.{ℕ, true, if◌then◌else◌, [], Option, None, Some}
+use Rattle.std.specs.Prelude.{ℕ, true, false, if◌then◌else◌, [], Option, None, Some}
 use Rattle.texml_token.specs.Token.{Token}
 use Rattle.texml_token.specs.declared.fault_code.TheConstants.{FILE_ENDED, BAD_PREFIX}
 use Rattle.texml_scope.specs.declared.values.KindOf.TheVariants.{Begin}
@@ -7,7 +7,7 @@ use Rattle.texml_expand.specs.State.{State, Answer, Reading, ◌>>=◌, ◌>>◌
 use Rattle.texml_expand.specs.Expand.{fetch}
 use Rattle.texml_assign.specs.declared.table.Prefix.{Prefix as PrefixWord}
 use Rattle.texml_assign.specs.declared.table.Command.{Command as CommandWord}
-use Rattle.texml_assign.specs.declared.table.Command.TheVariants.{Relax, Def, Gdef, Let, BeginGroup, EndGroup, AfterGroup, AfterAssignment, NewCommand, Assign, Short, Arithmetic}
+use Rattle.texml_assign.specs.declared.table.Command.TheVariants.{Relax, Def, Gdef, Edef, Xdef, Let, BeginGroup, EndGroup, AfterGroup, AfterAssignment, NewCommand, NewIf, ChangeCase, IgnoreSpaces, Assign, Short, Arithmetic}
 use Rattle.texml_assign.specs.declared.table.Executable.{Executable}
 use Rattle.texml_assign.specs.declared.table.Executable.TheVariants.{Prefix, Command}
 use Rattle.texml_assign.specs.declared.table.Prefixes.{Prefixes}
@@ -20,6 +20,9 @@ use Rattle.texml_expand.specs.Take.{means}
 use Rattle.texml_assign.specs.Operands.{meant, with_token}
 use Rattle.texml_assign.specs.Define.{defined, assigned}
 use Rattle.texml_assign.specs.NewCommand.{new_command}
+use Rattle.texml_assign.specs.NewIf.{new_if}
+use Rattle.texml_assign.specs.Letters.{change_case}
+use Rattle.texml_assign.specs.Fillers.{ignore_spaces}
 use Rattle.texml_assign.specs.Assignments.{assignment}
 use Rattle.texml_assign.specs.ShortNames.{short_name}
 use Rattle.texml_assign.specs.Arithmetic.{arithmetic}
@@ -30,14 +33,19 @@ use Rattle.texml_assign.specs.Sets.{begin_kind, end_kind, read_after, keep_token
 -- what a command does, with the prefixes before it
 abbrev pub row : Prefixes → CommandWord → ByDepth (Unit {0})
 row p Relax = λ n. give tt
-row p Def = assigned p.global (λ n. defined p.long)
-row p Gdef = assigned true (λ n. defined p.long)
+row p Def = assigned p.global (defined false p.long)
+row p Gdef = assigned true (defined false p.long)
+row p Edef = assigned p.global (defined true p.long)
+row p Xdef = assigned true (defined true p.long)
 row p Let = assigned p.global meant
 row p BeginGroup = λ n. begin_kind Begin
 row p EndGroup = λ n. end_kind Begin
 row p AfterGroup = λ n. with_token read_after
 row p AfterAssignment = λ n. with_token keep_token
 row p (NewCommand naming) = new_command naming
+row p NewIf = λ n. new_if
+row p (ChangeCase case) = change_case case
+row p IgnoreSpaces = ignore_spaces
 row p (Assign target) = assignment p.global target
 row p (Short what) = short_name p.global what
 row p (Arithmetic what) = arithmetic p.global what

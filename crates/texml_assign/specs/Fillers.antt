@@ -1,10 +1,9 @@
 -- What may stand before a value (The TeXbook, chapter 24): spaces, \relax and an equals sign. Tokens are expanded as they are looked at.
-use Rattle.std.specs.Prelude.{◌==◌, ◌||◌, Bool, true, false, if◌then◌else◌, Option, None, Some}
-use Rattle.texml_token.specs.Token.{Token}
+use Rattle.std.specs.Prelude.{◌==◌, ◌||◌, Bool, false, if◌then◌else◌, Option, None, Some}
 use Rattle.texml_scope.specs.Texts.{Meaning}
 use Rattle.texml_scope.specs.declared.builtins.TheConstants.{RELAX}
 use Rattle.texml_scope.specs.declared.values.MeaningOf.TheVariants.{Builtin}
-use Rattle.texml_expand.specs.State.{State, Reading, ◌>>=◌, give, change}
+use Rattle.texml_expand.specs.State.{Reading, ◌>>=◌, give, change}
 use Rattle.texml_expand.specs.Expand.{ByDepth, level, back, means}
 use Rattle.texml_expand.specs.Arguments.{means_space}
 use Rattle.texml_expand.specs.Quantities.{Looked, expanded}
@@ -41,3 +40,14 @@ abbrev pub optional_equals : ByDepth (Unit {0})
 optional_equals n = do
   o ← first_behind Spaces n
   past_equals o
+
+-- a token that was looked at, if there is one, goes back, and may be expanded from then on
+abbrev pub put_looked : Option Looked → Reading (Unit {0})
+put_looked None = give tt
+put_looked (Some x) = change (back x.token false)
+
+-- spaces go, and the token behind them comes next
+abbrev pub ignore_spaces : ByDepth (Unit {0})
+ignore_spaces n = do
+  o ← first_behind Spaces n
+  put_looked o

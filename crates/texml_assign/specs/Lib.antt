@@ -11,6 +11,8 @@ pub mod ShortNames
 pub mod Arithmetic
 pub mod Define
 pub mod NewCommand
+pub mod NewIf
+pub mod Letters
 pub mod Execute
 pub mod Advance
 pub mod Doing
@@ -18,3 +20,4 @@ pub mod Setting
 pub mod Behind
 pub mod TargetCodes
 pub mod Allowing
+pub mod ConditionalNames

@@ -5,7 +5,7 @@ use Rattle.texml_token.specs.declared.category.TheConstants.{OTHER}
 use Rattle.texml_token.specs.declared.fault_code.TheConstants.{FILE_ENDED, MISPLACED}
 use Rattle.texml_scope.specs.Texts.{Key, Meaning}
 use Rattle.texml_scope.specs.declared.values.KeyOf.TheVariants.{Name, Active as ActiveKey}
-use Rattle.texml_expand.specs.Next.{Taken}
+use Rattle.texml_input.specs.Next.{Taken}
 use Rattle.texml_expand.specs.State.{State, Reading, ◌>>=◌, give, fail, change}
 use Rattle.texml_expand.specs.Expand.{take, back}
 use Rattle.texml_expand.specs.Arguments.{means_space}

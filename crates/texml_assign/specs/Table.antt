@@ -3,7 +3,7 @@ use Rattle.std.specs.Prelude.{ℕ, ◌==◌, ◌||◌, Bool, true, false, if◌t
 use Rattle.std.specs.Option.{option_map}
 use Rattle.texml_scope.specs.Texts.{Meaning}
 use Rattle.texml_scope.specs.declared.values.MeaningOf.TheVariants.{Builtin, Quantity}
-use Rattle.texml_scope.specs.declared.builtins.TheConstants.{RELAX, DEF, GDEF, LET, LONG, OUTER, GLOBAL, BEGINGROUP, ENDGROUP, AFTERGROUP, AFTERASSIGNMENT, NEWCOMMAND, RENEWCOMMAND, PROVIDECOMMAND, CHARDEF, COUNTDEF, DIMENDEF, SKIPDEF, TOKSDEF, ADVANCE, MULTIPLY, DIVIDE}
+use Rattle.texml_scope.specs.declared.builtins.TheConstants.{RELAX, DEF, GDEF, LET, LONG, OUTER, GLOBAL, BEGINGROUP, ENDGROUP, AFTERGROUP, AFTERASSIGNMENT, EDEF, XDEF, LOWERCASE, UPPERCASE, IGNORESPACES, NEWIF, NEWCOMMAND, RENEWCOMMAND, PROVIDECOMMAND, CHARDEF, COUNTDEF, DIMENDEF, SKIPDEF, TOKSDEF, ADVANCE, MULTIPLY, DIVIDE}
 use Rattle.texml_assign.specs.declared.targets.Registers.TheVariants.{Count, Dimen, Skip, Toks}
 use Rattle.texml_expand.specs.Variables.{variable_at}
 use Rattle.texml_assign.specs.declared.targets.Target.{Target}
@@ -11,10 +11,11 @@ use Rattle.texml_assign.specs.declared.targets.Target.TheVariants.{Behind}
 use Rattle.texml_assign.specs.declared.table.ShortFor.TheVariants.{Character, Register}
 use Rattle.texml_assign.specs.declared.table.Arithmetic.TheVariants.{Advance, Multiply, Divide}
 use Rattle.texml_assign.specs.declared.table.Naming.TheVariants.{New, Renew, Provide}
+use Rattle.texml_assign.specs.declared.letters.Case.TheVariants.{Small, Capital}
 use Rattle.texml_assign.specs.declared.table.Prefix.{Prefix as PrefixWord}
 use Rattle.texml_assign.specs.declared.table.Prefix.TheVariants.{Long, Outer, Global}
 use Rattle.texml_assign.specs.declared.table.Command.{Command as CommandWord}
-use Rattle.texml_assign.specs.declared.table.Command.TheVariants.{Relax, Def, Gdef, Let, BeginGroup, EndGroup, AfterGroup, AfterAssignment, NewCommand, Assign, Short, Arithmetic}
+use Rattle.texml_assign.specs.declared.table.Command.TheVariants.{Relax, Def, Gdef, Edef, Xdef, Let, BeginGroup, EndGroup, AfterGroup, AfterAssignment, NewCommand, NewIf, ChangeCase, IgnoreSpaces, Assign, Short, Arithmetic}
 use Rattle.texml_assign.specs.declared.table.Executable.{Executable}
 use Rattle.texml_assign.specs.declared.table.Executable.TheVariants.{Prefix, Command}
 use Rattle.texml_assign.specs.declared.table.Prefixes.{Prefixes}
@@ -30,6 +31,8 @@ executable_at place =
     if place == RELAX then Some (Command Relax)
     else if place == DEF then Some (Command Def)
     else if place == GDEF then Some (Command Gdef)
+    else if place == EDEF then Some (Command Edef)
+    else if place == XDEF then Some (Command Xdef)
     else if place == LET then Some (Command Let)
     else if place == LONG then Some (Prefix Long)
     else if place == OUTER then Some (Prefix Outer)
@@ -41,6 +44,10 @@ executable_at place =
     else if place == NEWCOMMAND then Some (Command (NewCommand New))
     else if place == RENEWCOMMAND then Some (Command (NewCommand Renew))
     else if place == PROVIDECOMMAND then Some (Command (NewCommand Provide))
+    else if place == NEWIF then Some (Command NewIf)
+    else if place == LOWERCASE then Some (Command (ChangeCase Small))
+    else if place == UPPERCASE then Some (Command (ChangeCase Capital))
+    else if place == IGNORESPACES then Some (Command IgnoreSpaces)
     else if place == CHARDEF then Some (Command (Short Character))
     else if place == COUNTDEF then Some (Command (Short (Register Count)))
     else if place == DIMENDEF then Some (Command (Short (Register Dimen)))
@@ -60,6 +67,8 @@ executable_of m = None
 abbrev pub is_definition : CommandWord → Bool
 is_definition Def = true
 is_definition Gdef = true
+is_definition Edef = true
+is_definition Xdef = true
 is_definition c = false
 
 abbrev pub is_assignment : CommandWord → Bool

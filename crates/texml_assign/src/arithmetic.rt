@@ -5,9 +5,9 @@ ghost use Rattle.texml_token.specs.Numbers.{token_at, TokenWithin, OptionWithin}
 ghost use Rattle.texml_fixed.specs.Arithmetic.{IsWithin};
 ghost use Rattle.texml_fixed.specs.Glue.{IsGlueWithin};
 ghost use Rattle.texml_scope.specs.Numbers.{key_at, KeyWithin};
-ghost use Rattle.texml_expand.specs.Contract.{Silent, outside, stop_after};
+ghost use Rattle.texml_expand.specs.Contract.{Local, outside, stop_after};
 ghost use Rattle.texml_expand.specs.Hearing.{hears, hears_part};
-ghost use Rattle.texml_expand.specs.Held.{state_of, Sound, Kept, ok_at};
+ghost use Rattle.texml_expand.specs.Held.{Sound, Kept, ok_at, Owns};
 ghost use Rattle.texml_assign.specs.Doing.{Does};
 ghost use Rattle.texml_assign.specs.Targets.{variable_of as spec_variable_of, is_counted as spec_is_counted};
 ghost use Rattle.texml_assign.specs.TargetCodes.{IsCounted, IsCountWithin, IsLike, Suits, number_by};
@@ -51,9 +51,9 @@ pub fn arithmetic<F: Files, T: Teller>(
 ) -> Result<(), Stop>
     requires running { engine.old.stop ≡ None }
     requires sound { Sound engine.old }
+    requires owns { Owns (F.shelf files.old) engine.old }
     ensures does { Does (hears T.wanting T.heard) (hears_part T.wanting T.part) (spec_arithmetic global what) result engine.old engine.new
-        (outside (F.faults files.old) (T.faults tell.old)) (outside (F.faults files.new) (T.faults tell.new)) tell.old tell.new }
-    ensures files { files.new ≡ files.old }
+        (outside (F.shelf files.old) (F.faults files.old) (T.faults tell.old) (T.loan tell.old)) (outside (F.shelf files.new) (F.faults files.new) (T.faults tell.new) (T.loan tell.new)) tell.old tell.new }
 {
     let target = next_counted(engine, files, tell)?;
     count_target(engine, files, tell, global, what, target)
@@ -70,10 +70,10 @@ fn count_target<F: Files, T: Teller>(
 ) -> Result<(), Stop>
     requires running { engine.old.stop ≡ None }
     requires sound { Sound engine.old }
+    requires owns { Owns (F.shelf files.old) engine.old }
     requires counted { spec_is_counted (spec_variable_of target) ≡ true }
     ensures does { Does (hears T.wanting T.heard) (hears_part T.wanting T.part) (spec_count_target global what target) result engine.old engine.new
-        (outside (F.faults files.old) (T.faults tell.old)) (outside (F.faults files.new) (T.faults tell.new)) tell.old tell.new }
-    ensures files { files.new ≡ files.old }
+        (outside (F.shelf files.old) (F.faults files.old) (T.faults tell.old) (T.loan tell.old)) (outside (F.shelf files.new) (F.faults files.new) (T.faults tell.new) (T.loan tell.new)) tell.old tell.new }
 {
     let key = target_key(engine, files, tell, target)?;
     count_by(engine, files, tell, global, what, key)
@@ -90,11 +90,11 @@ fn count_by<F: Files, T: Teller>(
 ) -> Result<(), Stop>
     requires running { engine.old.stop ≡ None }
     requires sound { Sound engine.old }
+    requires owns { Owns (F.shelf files.old) engine.old }
     requires key { IsCounted key }
     requires within { KeyWithin (length engine.old.names) key }
     ensures does { Does (hears T.wanting T.heard) (hears_part T.wanting T.part) (spec_count_by global what (key_at engine.old.names key)) result engine.old engine.new
-        (outside (F.faults files.old) (T.faults tell.old)) (outside (F.faults files.new) (T.faults tell.new)) tell.old tell.new }
-    ensures files { files.new ≡ files.old }
+        (outside (F.shelf files.old) (F.faults files.old) (T.faults tell.old) (T.loan tell.old)) (outside (F.shelf files.new) (F.faults files.new) (T.faults tell.new) (T.loan tell.new)) tell.old tell.new }
 {
     engine.read_keyword(files, tell, BY)?;
     count_with(engine, files, tell, global, what, key)
@@ -111,11 +111,11 @@ fn count_with<F: Files, T: Teller>(
 ) -> Result<(), Stop>
     requires running { engine.old.stop ≡ None }
     requires sound { Sound engine.old }
+    requires owns { Owns (F.shelf files.old) engine.old }
     requires key { IsCounted key }
     requires within { KeyWithin (length engine.old.names) key }
     ensures does { Does (hears T.wanting T.heard) (hears_part T.wanting T.part) (spec_count_with global what (key_at engine.old.names key)) result engine.old engine.new
-        (outside (F.faults files.old) (T.faults tell.old)) (outside (F.faults files.new) (T.faults tell.new)) tell.old tell.new }
-    ensures files { files.new ≡ files.old }
+        (outside (F.shelf files.old) (F.faults files.old) (T.faults tell.old) (T.loan tell.old)) (outside (F.shelf files.new) (F.faults files.new) (T.faults tell.new) (T.loan tell.new)) tell.old tell.new }
 {
     let old = count_now(engine, key)?;
     count_on(engine, files, tell, global, what, key, old)
@@ -133,13 +133,13 @@ fn count_on<F: Files, T: Teller>(
 ) -> Result<(), Stop>
     requires running { engine.old.stop ≡ None }
     requires sound { Sound engine.old }
+    requires owns { Owns (F.shelf files.old) engine.old }
     requires key { IsCounted key }
     requires given { KeyWithin (length engine.old.names) key }
     requires suits { Suits key old }
     requires within { IsCountWithin old }
     ensures does { Does (hears T.wanting T.heard) (hears_part T.wanting T.part) (spec_count_on global what (key_at engine.old.names key) old) result engine.old engine.new
-        (outside (F.faults files.old) (T.faults tell.old)) (outside (F.faults files.new) (T.faults tell.new)) tell.old tell.new }
-    ensures files { files.new ≡ files.old }
+        (outside (F.shelf files.old) (F.faults files.old) (T.faults tell.old) (T.loan tell.old)) (outside (F.shelf files.new) (F.faults files.new) (T.faults tell.new) (T.loan tell.new)) tell.old tell.new }
 {
     let new = computed(engine, files, tell, what, old)?;
     set(engine, global, key, value_from(new))
@@ -153,10 +153,10 @@ fn next_counted<F: Files, T: Teller>(
 ) -> Result<Target, Stop>
     requires running { engine.old.stop ≡ None }
     requires sound { Sound engine.old }
+    requires owns { Owns (F.shelf files.old) engine.old }
     ensures does { Does (hears T.wanting T.heard) (hears_part T.wanting T.part) spec_next_counted result engine.old engine.new
-        (outside (F.faults files.old) (T.faults tell.old)) (outside (F.faults files.new) (T.faults tell.new)) tell.old tell.new }
+        (outside (F.shelf files.old) (F.faults files.old) (T.faults tell.old) (T.loan tell.old)) (outside (F.shelf files.new) (F.faults files.new) (T.faults tell.new) (T.loan tell.new)) tell.old tell.new }
     ensures counted { IfOk result (λ target. spec_is_counted (spec_variable_of target) ≡ true) }
-    ensures files { files.new ≡ files.old }
 {
     let next = engine.fetch(files, tell)?;
     counted_of(engine, next)
@@ -167,7 +167,7 @@ fn counted_of(engine: &mut Engine, next: Option<Token>) -> Result<Target, Stop>
     requires running { engine.old.stop ≡ None }
     requires sound { Sound engine.old }
     requires next { OptionWithin (TokenWithin (length engine.old.names)) next }
-    ensures is { Silent (spec_counted_of (option_map (token_at engine.old.names) next) (state_of engine.old)) result (state_of engine.new) }
+    ensures is { Local (spec_counted_of (option_map (token_at engine.old.names) next)) result engine.old engine.new }
     ensures kept { engine.new.stop ≡ stop_after result }
     ensures same { engine.new ≡ record engine.old { stop = engine.new.stop } }
     ensures keeps { OnOk result (Kept engine.old engine.new) }
@@ -184,7 +184,7 @@ fn counted_by(engine: &mut Engine, token: Token) -> Result<Target, Stop>
     requires running { engine.old.stop ≡ None }
     requires sound { Sound engine.old }
     requires token { TokenWithin (length engine.old.names) token }
-    ensures is { Silent (spec_counted_by (token_at engine.old.names token) (state_of engine.old)) result (state_of engine.new) }
+    ensures is { Local (spec_counted_by (token_at engine.old.names token)) result engine.old engine.new }
     ensures kept { engine.new.stop ≡ stop_after result }
     ensures same { engine.new ≡ record engine.old { stop = engine.new.stop } }
     ensures keeps { OnOk result (Kept engine.old engine.new) }
@@ -201,7 +201,7 @@ fn counted_by(engine: &mut Engine, token: Token) -> Result<Target, Stop>
 fn countable(engine: &mut Engine, target: Option<Target>) -> Result<Target, Stop>
     requires running { engine.old.stop ≡ None }
     requires sound { Sound engine.old }
-    ensures is { Silent (spec_counted target (state_of engine.old)) result (state_of engine.new) }
+    ensures is { Local (spec_counted target) result engine.old engine.new }
     ensures kept { engine.new.stop ≡ stop_after result }
     ensures same { engine.new ≡ record engine.old { stop = engine.new.stop } }
     ensures keeps { OnOk result (Kept engine.old engine.new) }
@@ -222,7 +222,7 @@ fn count_now(engine: &mut Engine, key: Key) -> Result<Counted, Stop>
     requires sound { Sound engine.old }
     requires key { IsCounted key }
     requires within { KeyWithin (length engine.old.names) key }
-    ensures is { Silent (spec_count_now (key_at engine.old.names key) (state_of engine.old)) result (state_of engine.new) }
+    ensures is { Local (spec_count_now (key_at engine.old.names key)) result engine.old engine.new }
     ensures kept { engine.new.stop ≡ stop_after result }
     ensures same { engine.new ≡ record engine.old { stop = engine.new.stop } }
     ensures keeps { OnOk result (Kept engine.old engine.new) }
@@ -260,11 +260,11 @@ fn computed<F: Files, T: Teller>(
 ) -> Result<Counted, Stop>
     requires running { engine.old.stop ≡ None }
     requires sound { Sound engine.old }
+    requires owns { Owns (F.shelf files.old) engine.old }
     requires within { IsCountWithin old }
     ensures does { Does (hears T.wanting T.heard) (hears_part T.wanting T.part) (spec_computed what old) result engine.old engine.new
-        (outside (F.faults files.old) (T.faults tell.old)) (outside (F.faults files.new) (T.faults tell.new)) tell.old tell.new }
+        (outside (F.shelf files.old) (F.faults files.old) (T.faults tell.old) (T.loan tell.old)) (outside (F.shelf files.new) (F.faults files.new) (T.faults tell.new) (T.loan tell.new)) tell.old tell.new }
     ensures like { IfOk result (IsLike old) }
-    ensures files { files.new ≡ files.old }
 {
     match what {
         Arithmetic::Advance => advanced(engine, files, tell, old),
@@ -282,11 +282,11 @@ fn multiplied<F: Files, T: Teller>(
 ) -> Result<Counted, Stop>
     requires running { engine.old.stop ≡ None }
     requires sound { Sound engine.old }
+    requires owns { Owns (F.shelf files.old) engine.old }
     requires within { IsCountWithin old }
     ensures does { Does (hears T.wanting T.heard) (hears_part T.wanting T.part) (by_number (spec_product old)) result engine.old engine.new
-        (outside (F.faults files.old) (T.faults tell.old)) (outside (F.faults files.new) (T.faults tell.new)) tell.old tell.new }
+        (outside (F.shelf files.old) (F.faults files.old) (T.faults tell.old) (T.loan tell.old)) (outside (F.shelf files.new) (F.faults files.new) (T.faults tell.new) (T.loan tell.new)) tell.old tell.new }
     ensures like { IfOk result (IsLike old) }
-    ensures files { files.new ≡ files.old }
 {
     let number = engine.read_int(files, tell)?;
     fits(engine, product(old, number))
@@ -301,11 +301,11 @@ fn shared<F: Files, T: Teller>(
 ) -> Result<Counted, Stop>
     requires running { engine.old.stop ≡ None }
     requires sound { Sound engine.old }
+    requires owns { Owns (F.shelf files.old) engine.old }
     requires within { IsCountWithin old }
     ensures does { Does (hears T.wanting T.heard) (hears_part T.wanting T.part) (by_number (spec_quotient old)) result engine.old engine.new
-        (outside (F.faults files.old) (T.faults tell.old)) (outside (F.faults files.new) (T.faults tell.new)) tell.old tell.new }
+        (outside (F.shelf files.old) (F.faults files.old) (T.faults tell.old) (T.loan tell.old)) (outside (F.shelf files.new) (F.faults files.new) (T.faults tell.new) (T.loan tell.new)) tell.old tell.new }
     ensures like { IfOk result (IsLike old) }
-    ensures files { files.new ≡ files.old }
 {
     let number = engine.read_int(files, tell)?;
     fits(engine, quotient(old, number))
@@ -320,11 +320,11 @@ fn advanced<F: Files, T: Teller>(
 ) -> Result<Counted, Stop>
     requires running { engine.old.stop ≡ None }
     requires sound { Sound engine.old }
+    requires owns { Owns (F.shelf files.old) engine.old }
     requires within { IsCountWithin old }
     ensures does { Does (hears T.wanting T.heard) (hears_part T.wanting T.part) (spec_advanced old) result engine.old engine.new
-        (outside (F.faults files.old) (T.faults tell.old)) (outside (F.faults files.new) (T.faults tell.new)) tell.old tell.new }
+        (outside (F.shelf files.old) (F.faults files.old) (T.faults tell.old) (T.loan tell.old)) (outside (F.shelf files.new) (F.faults files.new) (T.faults tell.new) (T.loan tell.new)) tell.old tell.new }
     ensures like { IfOk result (IsLike old) }
-    ensures files { files.new ≡ files.old }
 {
     match old {
         Counted::Number(old) => advanced_number(engine, files, tell, old),
@@ -342,11 +342,11 @@ fn advanced_number<F: Files, T: Teller>(
 ) -> Result<Counted, Stop>
     requires running { engine.old.stop ≡ None }
     requires sound { Sound engine.old }
+    requires owns { Owns (F.shelf files.old) engine.old }
     requires within { IsWithin old }
     ensures does { Does (hears T.wanting T.heard) (hears_part T.wanting T.part) (by_number (spec_number_sum old)) result engine.old engine.new
-        (outside (F.faults files.old) (T.faults tell.old)) (outside (F.faults files.new) (T.faults tell.new)) tell.old tell.new }
+        (outside (F.shelf files.old) (F.faults files.old) (T.faults tell.old) (T.loan tell.old)) (outside (F.shelf files.new) (F.faults files.new) (T.faults tell.new) (T.loan tell.new)) tell.old tell.new }
     ensures like { IfOk result (IsLike (Counted.Number old)) }
-    ensures files { files.new ≡ files.old }
 {
     let more = engine.read_int(files, tell)?;
     fits(engine, number_sum(old, more))
@@ -361,11 +361,11 @@ fn advanced_dimension<F: Files, T: Teller>(
 ) -> Result<Counted, Stop>
     requires running { engine.old.stop ≡ None }
     requires sound { Sound engine.old }
+    requires owns { Owns (F.shelf files.old) engine.old }
     requires within { IsWithin old.0 }
     ensures does { Does (hears T.wanting T.heard) (hears_part T.wanting T.part) (by_dimension (spec_dimension_sum old)) result engine.old engine.new
-        (outside (F.faults files.old) (T.faults tell.old)) (outside (F.faults files.new) (T.faults tell.new)) tell.old tell.new }
+        (outside (F.shelf files.old) (F.faults files.old) (T.faults tell.old) (T.loan tell.old)) (outside (F.shelf files.new) (F.faults files.new) (T.faults tell.new) (T.loan tell.new)) tell.old tell.new }
     ensures like { IfOk result (IsLike (Counted.Dimension old)) }
-    ensures files { files.new ≡ files.old }
 {
     let more = engine.read_dimen(files, tell)?;
     fits(engine, dimension_sum(old, more))
@@ -380,11 +380,11 @@ fn advanced_glue<F: Files, T: Teller>(
 ) -> Result<Counted, Stop>
     requires running { engine.old.stop ≡ None }
     requires sound { Sound engine.old }
+    requires owns { Owns (F.shelf files.old) engine.old }
     requires within { IsGlueWithin old }
     ensures does { Does (hears T.wanting T.heard) (hears_part T.wanting T.part) (by_glue (spec_sum_of_glue old)) result engine.old engine.new
-        (outside (F.faults files.old) (T.faults tell.old)) (outside (F.faults files.new) (T.faults tell.new)) tell.old tell.new }
+        (outside (F.shelf files.old) (F.faults files.old) (T.faults tell.old) (T.loan tell.old)) (outside (F.shelf files.new) (F.faults files.new) (T.faults tell.new) (T.loan tell.new)) tell.old tell.new }
     ensures like { IfOk result (IsLike (Counted.Glue old)) }
-    ensures files { files.new ≡ files.old }
 {
     let more = engine.read_glue(files, tell)?;
     fits(engine, sum_of_glue(old, more))
@@ -394,7 +394,7 @@ fn advanced_glue<F: Files, T: Teller>(
 fn fits(engine: &mut Engine, sum: Result<Counted, NumFault>) -> Result<Counted, Stop>
     requires running { engine.old.stop ≡ None }
     requires sound { Sound engine.old }
-    ensures fits { Silent (spec_fits sum (state_of engine.old)) result (state_of engine.new) }
+    ensures fits { Local (spec_fits sum) result engine.old engine.new }
     ensures kept { engine.new.stop ≡ stop_after result }
     ensures same { engine.new ≡ record engine.old { stop = engine.new.stop } }
     ensures keeps { OnOk result (Kept engine.old engine.new) }

@@ -6,10 +6,10 @@ ghost use Rattle.texml_token.specs.Numbers.{Table, OptionWithin};
 ghost use Rattle.texml_scope.specs.Numbers.{key_at, value_at, meaning_at, KeyWithin, ValueWithin};
 ghost use Rattle.texml_fixed.specs.Arithmetic.{IsWithin};
 ghost use Rattle.texml_scope.specs.World.{MaySet, IsNumber, IsCategory, IsCode, IsGlue, IsList};
-ghost use Rattle.texml_expand.specs.Contract.{Silent, outside, stop_after};
+ghost use Rattle.texml_expand.specs.Contract.{Local, outside, stop_after};
 ghost use Rattle.texml_expand.specs.Fronts.{looked_at, LookedWithin};
 ghost use Rattle.texml_expand.specs.Hearing.{hears, hears_part};
-ghost use Rattle.texml_expand.specs.Held.{state_of, Sound, Kept, ok_at};
+ghost use Rattle.texml_expand.specs.Held.{Sound, Kept, ok_at, Owns};
 ghost use Rattle.texml_assign.specs.Doing.{Does};
 ghost use Rattle.texml_assign.specs.Targets.{variable_of as spec_variable_of, is_list as is_list_variable};
 ghost use Rattle.texml_assign.specs.TargetCodes.{IsVariable, StartsList};
@@ -46,9 +46,9 @@ pub fn assignment<F: Files, T: Teller>(
 ) -> Result<(), Stop>
     requires running { engine.old.stop ≡ None }
     requires sound { Sound engine.old }
+    requires owns { Owns (F.shelf files.old) engine.old }
     ensures does { Does (hears T.wanting T.heard) (hears_part T.wanting T.part) (spec_assignment global target) result engine.old engine.new
-        (outside (F.faults files.old) (T.faults tell.old)) (outside (F.faults files.new) (T.faults tell.new)) tell.old tell.new }
-    ensures files { files.new ≡ files.old }
+        (outside (F.shelf files.old) (F.faults files.old) (T.faults tell.old) (T.loan tell.old)) (outside (F.shelf files.new) (F.faults files.new) (T.faults tell.new) (T.loan tell.new)) tell.old tell.new }
 {
     let key = target_key(engine, files, tell, target)?;
     assign_to(engine, files, tell, global, key)
@@ -64,11 +64,11 @@ fn assign_to<F: Files, T: Teller>(
 ) -> Result<(), Stop>
     requires running { engine.old.stop ≡ None }
     requires sound { Sound engine.old }
+    requires owns { Owns (F.shelf files.old) engine.old }
     requires key { IsVariable key }
     requires within { KeyWithin (length engine.old.names) key }
     ensures does { Does (hears T.wanting T.heard) (hears_part T.wanting T.part) (spec_assign_to global (key_at engine.old.names key)) result engine.old engine.new
-        (outside (F.faults files.old) (T.faults tell.old)) (outside (F.faults files.new) (T.faults tell.new)) tell.old tell.new }
-    ensures files { files.new ≡ files.old }
+        (outside (F.shelf files.old) (F.faults files.old) (T.faults tell.old) (T.loan tell.old)) (outside (F.shelf files.new) (F.faults files.new) (T.faults tell.new) (T.loan tell.new)) tell.old tell.new }
 {
     optional_equals(engine, files, tell)?;
     assign_next(engine, files, tell, global, key)
@@ -84,11 +84,11 @@ fn assign_next<F: Files, T: Teller>(
 ) -> Result<(), Stop>
     requires running { engine.old.stop ≡ None }
     requires sound { Sound engine.old }
+    requires owns { Owns (F.shelf files.old) engine.old }
     requires key { IsVariable key }
     requires within { KeyWithin (length engine.old.names) key }
     ensures does { Does (hears T.wanting T.heard) (hears_part T.wanting T.part) (spec_assign_next global (key_at engine.old.names key)) result engine.old engine.new
-        (outside (F.faults files.old) (T.faults tell.old)) (outside (F.faults files.new) (T.faults tell.new)) tell.old tell.new }
-    ensures files { files.new ≡ files.old }
+        (outside (F.shelf files.old) (F.faults files.old) (T.faults tell.old) (T.loan tell.old)) (outside (F.shelf files.new) (F.faults files.new) (T.faults tell.new) (T.loan tell.new)) tell.old tell.new }
 {
     let value = value_for(engine, files, tell, key)?;
     set(engine, global, key, value)
@@ -103,12 +103,12 @@ fn value_for<F: Files, T: Teller>(
 ) -> Result<Value, Stop>
     requires running { engine.old.stop ≡ None }
     requires sound { Sound engine.old }
+    requires owns { Owns (F.shelf files.old) engine.old }
     requires key { IsVariable key }
     ensures does { Does (hears T.wanting T.heard) (hears_part T.wanting T.part) (spec_value_for (key_at engine.old.names key)) (ok_at (value_at engine.new.names) result) engine.old engine.new
-        (outside (F.faults files.old) (T.faults tell.old)) (outside (F.faults files.new) (T.faults tell.new)) tell.old tell.new }
+        (outside (F.shelf files.old) (F.faults files.old) (T.faults tell.old) (T.loan tell.old)) (outside (F.shelf files.new) (F.faults files.new) (T.faults tell.new) (T.loan tell.new)) tell.old tell.new }
     ensures within { IfOk result (ValueWithin (length engine.new.names)) }
     ensures may { IfOk result (MaySet key) }
-    ensures files { files.new ≡ files.old }
 {
     match key {
         Key::Cat(_) => next_category(engine, files, tell),
@@ -128,10 +128,10 @@ fn next_number<F: Files, T: Teller>(
 ) -> Result<Value, Stop>
     requires running { engine.old.stop ≡ None }
     requires sound { Sound engine.old }
+    requires owns { Owns (F.shelf files.old) engine.old }
     ensures does { Does (hears T.wanting T.heard) (hears_part T.wanting T.part) spec_next_number (ok_at (value_at engine.new.names) result) engine.old engine.new
-        (outside (F.faults files.old) (T.faults tell.old)) (outside (F.faults files.new) (T.faults tell.new)) tell.old tell.new }
+        (outside (F.shelf files.old) (F.faults files.old) (T.faults tell.old) (T.loan tell.old)) (outside (F.shelf files.new) (F.faults files.new) (T.faults tell.new) (T.loan tell.new)) tell.old tell.new }
     ensures kind { IfOk result (IsNumber IsWithin) }
-    ensures files { files.new ≡ files.old }
 {
     let number = engine.read_int(files, tell)?;
     Ok(Value::Number(number))
@@ -145,10 +145,10 @@ fn next_category<F: Files, T: Teller>(
 ) -> Result<Value, Stop>
     requires running { engine.old.stop ≡ None }
     requires sound { Sound engine.old }
+    requires owns { Owns (F.shelf files.old) engine.old }
     ensures does { Does (hears T.wanting T.heard) (hears_part T.wanting T.part) spec_next_category (ok_at (value_at engine.new.names) result) engine.old engine.new
-        (outside (F.faults files.old) (T.faults tell.old)) (outside (F.faults files.new) (T.faults tell.new)) tell.old tell.new }
+        (outside (F.shelf files.old) (F.faults files.old) (T.faults tell.old) (T.loan tell.old)) (outside (F.shelf files.new) (F.faults files.new) (T.faults tell.new) (T.loan tell.new)) tell.old tell.new }
     ensures kind { IfOk result (IsNumber IsCategory) }
-    ensures files { files.new ≡ files.old }
 {
     let number = engine.read_int(files, tell)?;
     category_of(engine, number)
@@ -158,7 +158,7 @@ fn next_category<F: Files, T: Teller>(
 fn category_of(engine: &mut Engine, number: i32) -> Result<Value, Stop>
     requires running { engine.old.stop ≡ None }
     requires sound { Sound engine.old }
-    ensures is { Silent (spec_category_of number (state_of engine.old)) (ok_at (value_at engine.old.names) result) (state_of engine.new) }
+    ensures is { Local (spec_category_of number) (ok_at (value_at engine.old.names) result) engine.old engine.new }
     ensures kept { engine.new.stop ≡ stop_after result }
     ensures same { engine.new ≡ record engine.old { stop = engine.new.stop } }
     ensures keeps { OnOk result (Kept engine.old engine.new) }
@@ -178,10 +178,10 @@ fn next_code<F: Files, T: Teller>(
 ) -> Result<Value, Stop>
     requires running { engine.old.stop ≡ None }
     requires sound { Sound engine.old }
+    requires owns { Owns (F.shelf files.old) engine.old }
     ensures does { Does (hears T.wanting T.heard) (hears_part T.wanting T.part) spec_next_code (ok_at (value_at engine.new.names) result) engine.old engine.new
-        (outside (F.faults files.old) (T.faults tell.old)) (outside (F.faults files.new) (T.faults tell.new)) tell.old tell.new }
+        (outside (F.shelf files.old) (F.faults files.old) (T.faults tell.old) (T.loan tell.old)) (outside (F.shelf files.new) (F.faults files.new) (T.faults tell.new) (T.loan tell.new)) tell.old tell.new }
     ensures kind { IfOk result (IsNumber IsCode) }
-    ensures files { files.new ≡ files.old }
 {
     let code = engine.read_index(files, tell, Index::Character)?;
     Ok(Value::Number(code as i32))
@@ -195,10 +195,10 @@ fn next_dimension<F: Files, T: Teller>(
 ) -> Result<Value, Stop>
     requires running { engine.old.stop ≡ None }
     requires sound { Sound engine.old }
+    requires owns { Owns (F.shelf files.old) engine.old }
     ensures does { Does (hears T.wanting T.heard) (hears_part T.wanting T.part) spec_next_dimension (ok_at (value_at engine.new.names) result) engine.old engine.new
-        (outside (F.faults files.old) (T.faults tell.old)) (outside (F.faults files.new) (T.faults tell.new)) tell.old tell.new }
+        (outside (F.shelf files.old) (F.faults files.old) (T.faults tell.old) (T.loan tell.old)) (outside (F.shelf files.new) (F.faults files.new) (T.faults tell.new) (T.loan tell.new)) tell.old tell.new }
     ensures kind { IfOk result (IsNumber IsWithin) }
-    ensures files { files.new ≡ files.old }
 {
     let dimension = engine.read_dimen(files, tell)?;
     Ok(Value::Number(dimension.0))
@@ -212,10 +212,10 @@ fn next_glue<F: Files, T: Teller>(
 ) -> Result<Value, Stop>
     requires running { engine.old.stop ≡ None }
     requires sound { Sound engine.old }
+    requires owns { Owns (F.shelf files.old) engine.old }
     ensures does { Does (hears T.wanting T.heard) (hears_part T.wanting T.part) spec_next_glue (ok_at (value_at engine.new.names) result) engine.old engine.new
-        (outside (F.faults files.old) (T.faults tell.old)) (outside (F.faults files.new) (T.faults tell.new)) tell.old tell.new }
+        (outside (F.shelf files.old) (F.faults files.old) (T.faults tell.old) (T.loan tell.old)) (outside (F.shelf files.new) (F.faults files.new) (T.faults tell.new) (T.loan tell.new)) tell.old tell.new }
     ensures kind { IfOk result (IsGlue) }
-    ensures files { files.new ≡ files.old }
 {
     let glue = engine.read_glue(files, tell)?;
     Ok(Value::Glue(glue))
@@ -229,11 +229,11 @@ fn next_list<F: Files, T: Teller>(
 ) -> Result<Value, Stop>
     requires running { engine.old.stop ≡ None }
     requires sound { Sound engine.old }
+    requires owns { Owns (F.shelf files.old) engine.old }
     ensures does { Does (hears T.wanting T.heard) (hears_part T.wanting T.part) spec_next_list (ok_at (value_at engine.new.names) result) engine.old engine.new
-        (outside (F.faults files.old) (T.faults tell.old)) (outside (F.faults files.new) (T.faults tell.new)) tell.old tell.new }
+        (outside (F.shelf files.old) (F.faults files.old) (T.faults tell.old) (T.loan tell.old)) (outside (F.shelf files.new) (F.faults files.new) (T.faults tell.new) (T.loan tell.new)) tell.old tell.new }
     ensures kind { IfOk result IsList }
     ensures within { IfOk result (ValueWithin (length engine.new.names)) }
-    ensures files { files.new ≡ files.old }
 {
     let first = first_behind(engine, files, tell, Filler::SpacesAndRelax)?;
     list_by(engine, files, tell, first)
@@ -248,23 +248,28 @@ fn list_by<F: Files, T: Teller>(
 ) -> Result<Value, Stop>
     requires running { engine.old.stop ≡ None }
     requires sound { Sound engine.old }
+    requires owns { Owns (F.shelf files.old) engine.old }
     requires first { OptionWithin (LookedWithin (length engine.old.names)) first }
     ensures does { Does (hears T.wanting T.heard) (hears_part T.wanting T.part) (spec_list_by (option_map (looked_at engine.old.names) first)) (ok_at (value_at engine.new.names) result) engine.old engine.new
-        (outside (F.faults files.old) (T.faults tell.old)) (outside (F.faults files.new) (T.faults tell.new)) tell.old tell.new }
+        (outside (F.shelf files.old) (F.faults files.old) (T.faults tell.old) (T.loan tell.old)) (outside (F.shelf files.new) (F.faults files.new) (T.faults tell.new) (T.loan tell.new)) tell.old tell.new }
     ensures kind { IfOk result IsList }
     ensures within { IfOk result (ValueWithin (length engine.new.names)) }
-    ensures files { files.new ≡ files.old }
 {
     let start = list_start(engine, first)?;
     list_from(engine, files, tell, start)
 }
 
-// Where a list comes from, by the token that begins it.
-fn list_start(engine: &mut Engine, first: Option<Looked>) -> Result<ListStart, Stop>
+/// Where a list comes from, by the token that begins it.
+///
+/// # Errors
+///
+/// `Tex` with fault 4 where no token comes, and with fault 22 where one comes that begins no list. `NoMemory` where memory was
+/// refused.
+pub fn list_start(engine: &mut Engine, first: Option<Looked>) -> Result<ListStart, Stop>
     requires running { engine.old.stop ≡ None }
     requires sound { Sound engine.old }
     requires first { OptionWithin (LookedWithin (length engine.old.names)) first }
-    ensures starts { Silent (spec_list_start (option_map (looked_at engine.old.names) first) (state_of engine.old)) result (state_of engine.new) }
+    ensures starts { Local (spec_list_start (option_map (looked_at engine.old.names) first)) result engine.old engine.new }
     ensures kept { engine.new.stop ≡ stop_after result }
     ensures is { engine.new ≡ record engine.old { stop = engine.new.stop } }
     ensures keeps { OnOk result (Kept engine.old engine.new) }
@@ -332,12 +337,12 @@ fn list_from<F: Files, T: Teller>(
 ) -> Result<Value, Stop>
     requires running { engine.old.stop ≡ None }
     requires sound { Sound engine.old }
+    requires owns { Owns (F.shelf files.old) engine.old }
     requires list { StartsList start }
     ensures does { Does (hears T.wanting T.heard) (hears_part T.wanting T.part) (spec_list_from start) (ok_at (value_at engine.new.names) result) engine.old engine.new
-        (outside (F.faults files.old) (T.faults tell.old)) (outside (F.faults files.new) (T.faults tell.new)) tell.old tell.new }
+        (outside (F.shelf files.old) (F.faults files.old) (T.faults tell.old) (T.loan tell.old)) (outside (F.shelf files.new) (F.faults files.new) (T.faults tell.new) (T.loan tell.new)) tell.old tell.new }
     ensures kind { IfOk result IsList }
     ensures within { IfOk result (ValueWithin (length engine.new.names)) }
-    ensures files { files.new ≡ files.old }
 {
     match start {
         ListStart::Group => absorbed_list(engine, files, tell),
@@ -353,13 +358,13 @@ fn absorbed_list<F: Files, T: Teller>(
 ) -> Result<Value, Stop>
     requires running { engine.old.stop ≡ None }
     requires sound { Sound engine.old }
-    ensures does { Does (hears T.wanting T.heard) (hears_part T.wanting T.part) (λ n. spec_absorbed_list) (ok_at (value_at engine.new.names) result) engine.old engine.new
-        (outside (F.faults files.old) (T.faults tell.old)) (outside (F.faults files.new) (T.faults tell.new)) tell.old tell.new }
+    requires owns { Owns (F.shelf files.old) engine.old }
+    ensures does { Does (hears T.wanting T.heard) (hears_part T.wanting T.part) spec_absorbed_list (ok_at (value_at engine.new.names) result) engine.old engine.new
+        (outside (F.shelf files.old) (F.faults files.old) (T.faults tell.old) (T.loan tell.old)) (outside (F.shelf files.new) (F.faults files.new) (T.faults tell.new) (T.loan tell.new)) tell.old tell.new }
     ensures kind { IfOk result IsList }
     ensures within { IfOk result (ValueWithin (length engine.new.names)) }
-    ensures files { files.new ≡ files.old }
 {
-    let list = engine.absorb(files, tell)?;
+    let list = engine.absorb(files, tell, false)?;
     Ok(Value::List(list))
 }
 
@@ -372,12 +377,12 @@ fn copied_list<F: Files, T: Teller>(
 ) -> Result<Value, Stop>
     requires running { engine.old.stop ≡ None }
     requires sound { Sound engine.old }
+    requires owns { Owns (F.shelf files.old) engine.old }
     requires list { is_list_variable (spec_variable_of target) ≡ true }
     ensures does { Does (hears T.wanting T.heard) (hears_part T.wanting T.part) (spec_copied_list target) (ok_at (value_at engine.new.names) result) engine.old engine.new
-        (outside (F.faults files.old) (T.faults tell.old)) (outside (F.faults files.new) (T.faults tell.new)) tell.old tell.new }
+        (outside (F.shelf files.old) (F.faults files.old) (T.faults tell.old) (T.loan tell.old)) (outside (F.shelf files.new) (F.faults files.new) (T.faults tell.new) (T.loan tell.new)) tell.old tell.new }
     ensures kind { IfOk result IsList }
     ensures within { IfOk result (ValueWithin (length engine.new.names)) }
-    ensures files { files.new ≡ files.old }
 {
     let key = target_key(engine, files, tell, target)?;
     match engine.value(&key) {

@@ -3,9 +3,9 @@
 ghost use Rattle.std.specs.Prelude.{◌≡◌, length, None, IfOk, OnOk};
 ghost use Rattle.texml_token.specs.Numbers.{Table, token_at, tokens_at, TokensWithin, BodyWithin};
 ghost use Rattle.texml_scope.specs.Numbers.{meaning_at, MeaningWithin};
-ghost use Rattle.texml_expand.specs.Contract.{Silent, outside, stop_after};
+ghost use Rattle.texml_expand.specs.Contract.{Local, outside, stop_after};
 ghost use Rattle.texml_expand.specs.Hearing.{hears, hears_part};
-ghost use Rattle.texml_expand.specs.Held.{state_of, Sound, Kept, ok_at};
+ghost use Rattle.texml_expand.specs.Held.{Sound, Kept, ok_at, Owns};
 ghost use Rattle.texml_assign.specs.Doing.{Does};
 ghost use Rattle.texml_assign.specs.Operands.{meant as spec_meant};
 ghost use Rattle.texml_assign.specs.Parameters.{head_at};
@@ -22,7 +22,7 @@ use texml_scope::{Macro, Meaning};
 use texml_token::{Params, Tokens, fault_code};
 use texml_watch::Teller;
 
-/// Reads a definition and makes it: a name, and the macro that it means from now on.
+/// Reads a definition and makes it: a name, and the macro that it means from now on, whose body is expanded or not.
 ///
 /// # Errors
 ///
@@ -33,16 +33,17 @@ pub fn define<F: Files, T: Teller>(
     files: &mut F,
     tell: &mut T,
     global: bool,
+    expanding: bool,
     long: bool,
 ) -> Result<(), Stop>
     requires running { engine.old.stop ≡ None }
     requires sound { Sound engine.old }
-    ensures does { Does (hears T.wanting T.heard) (hears_part T.wanting T.part) (assigned global (λ n. spec_defined long)) result engine.old engine.new
-        (outside (F.faults files.old) (T.faults tell.old)) (outside (F.faults files.new) (T.faults tell.new)) tell.old tell.new }
-    ensures files { files.new ≡ files.old }
+    requires owns { Owns (F.shelf files.old) engine.old }
+    ensures does { Does (hears T.wanting T.heard) (hears_part T.wanting T.part) (assigned global (spec_defined expanding long)) result engine.old engine.new
+        (outside (F.shelf files.old) (F.faults files.old) (T.faults tell.old) (T.loan tell.old)) (outside (F.shelf files.new) (F.faults files.new) (T.faults tell.new) (T.loan tell.new)) tell.old tell.new }
 {
     let key = next_key(engine, files, tell)?;
-    let meaning = defined(alloc, engine, files, tell, long)?;
+    let meaning = defined(alloc, engine, files, tell, expanding, long)?;
     assign(engine, global, key, meaning)
 }
 
@@ -59,32 +60,33 @@ pub fn let_to<F: Files, T: Teller>(
 ) -> Result<(), Stop>
     requires running { engine.old.stop ≡ None }
     requires sound { Sound engine.old }
+    requires owns { Owns (F.shelf files.old) engine.old }
     ensures does { Does (hears T.wanting T.heard) (hears_part T.wanting T.part) (assigned global spec_meant) result engine.old engine.new
-        (outside (F.faults files.old) (T.faults tell.old)) (outside (F.faults files.new) (T.faults tell.new)) tell.old tell.new }
-    ensures files { files.new ≡ files.old }
+        (outside (F.shelf files.old) (F.faults files.old) (T.faults tell.old) (T.loan tell.old)) (outside (F.shelf files.new) (F.faults files.new) (T.faults tell.new) (T.loan tell.new)) tell.old tell.new }
 {
     let key = next_key(engine, files, tell)?;
     let meaning = meant(engine, files, tell)?;
     assign(engine, global, key, meaning)
 }
 
-// The macro that a definition gives: a parameter text, and a body in braces.
+// The macro that a definition gives: a parameter text, and a body in braces, which is expanded or not.
 fn defined<F: Files, T: Teller>(
     alloc: Global,
     engine: &mut Engine,
     files: &mut F,
     tell: &mut T,
+    expanding: bool,
     long: bool,
 ) -> Result<Meaning, Stop>
     requires running { engine.old.stop ≡ None }
     requires sound { Sound engine.old }
-    ensures does { Does (hears T.wanting T.heard) (hears_part T.wanting T.part) (λ n. spec_defined long) (ok_at (meaning_at engine.new.names) result) engine.old engine.new
-        (outside (F.faults files.old) (T.faults tell.old)) (outside (F.faults files.new) (T.faults tell.new)) tell.old tell.new }
+    requires owns { Owns (F.shelf files.old) engine.old }
+    ensures does { Does (hears T.wanting T.heard) (hears_part T.wanting T.part) (spec_defined expanding long) (ok_at (meaning_at engine.new.names) result) engine.old engine.new
+        (outside (F.shelf files.old) (F.faults files.old) (T.faults tell.old) (T.loan tell.old)) (outside (F.shelf files.new) (F.faults files.new) (T.faults tell.new) (T.loan tell.new)) tell.old tell.new }
     ensures within { IfOk result (MeaningWithin (length engine.new.names)) }
-    ensures files { files.new ≡ files.old }
 {
     let head = parameter_text(alloc, engine, files, tell)?;
-    let body = next_body(alloc, engine, files, tell, head.slots)?;
+    let body = next_body(alloc, engine, files, tell, expanding, head.slots)?;
     match macro_of(long, head, body) {
         Ok(made) => Ok(Meaning::Macro(made)),
         Err(_) => Err(engine.no_memory()),
@@ -100,32 +102,33 @@ fn parameter_text<F: Files, T: Teller>(
 ) -> Result<Head, Stop>
     requires running { engine.old.stop ≡ None }
     requires sound { Sound engine.old }
+    requires owns { Owns (F.shelf files.old) engine.old }
     ensures does { Does (hears T.wanting T.heard) (hears_part T.wanting T.part) (λ n. spec_parameter_text) (ok_at (head_at engine.new.names) result) engine.old engine.new
-        (outside (F.faults files.old) (T.faults tell.old)) (outside (F.faults files.new) (T.faults tell.new)) tell.old tell.new }
+        (outside (F.shelf files.old) (F.faults files.old) (T.faults tell.old) (T.loan tell.old)) (outside (F.shelf files.new) (F.faults files.new) (T.faults tell.new) (T.loan tell.new)) tell.old tell.new }
     ensures within { IfOk result (HeadWithin (length engine.new.names) 0) }
-    ensures files { files.new ≡ files.old }
 {
     look_ahead(engine, files, tell)?;
     let mut text = ParameterText::new(alloc);
     engine.read_by(files, tell, &mut text)
 }
 
-// The body that comes next of a macro with so many parameters, with the brace behind it.
+// The body that comes next of a macro with so many parameters, with the brace behind it; it is expanded or not.
 fn next_body<F: Files, T: Teller>(
     alloc: Global,
     engine: &mut Engine,
     files: &mut F,
     tell: &mut T,
+    expanding: bool,
     slots: u8,
 ) -> Result<Tokens, Stop>
     requires running { engine.old.stop ≡ None }
     requires sound { Sound engine.old }
-    ensures does { Does (hears T.wanting T.heard) (hears_part T.wanting T.part) (λ n. spec_next_body slots) (ok_at (tokens_at engine.new.names) result) engine.old engine.new
-        (outside (F.faults files.old) (T.faults tell.old)) (outside (F.faults files.new) (T.faults tell.new)) tell.old tell.new }
+    requires owns { Owns (F.shelf files.old) engine.old }
+    ensures does { Does (hears T.wanting T.heard) (hears_part T.wanting T.part) (spec_next_body expanding slots) (ok_at (tokens_at engine.new.names) result) engine.old engine.new
+        (outside (F.shelf files.old) (F.faults files.old) (T.faults tell.old) (T.loan tell.old)) (outside (F.shelf files.new) (F.faults files.new) (T.faults tell.new) (T.loan tell.new)) tell.old tell.new }
     ensures within { IfOk result (BodyWithin (length engine.new.names) slots) }
-    ensures files { files.new ≡ files.old }
 {
-    let list = engine.absorb(files, tell)?;
+    let list = engine.absorb(files, tell, expanding)?;
     body_said(alloc, engine, slots, &list)
 }
 
@@ -144,7 +147,7 @@ pub fn body_said(
     requires running { engine.old.stop ≡ None }
     requires sound { Sound engine.old }
     requires list { TokensWithin (length engine.old.names) list.now }
-    ensures needs { Silent (spec_body_said slots (tokens_at engine.old.names list.now) (state_of engine.old)) (ok_at (tokens_at engine.new.names) result) (state_of engine.new) }
+    ensures needs { Local (spec_body_said slots (tokens_at engine.old.names list.now)) (ok_at (tokens_at engine.new.names) result) engine.old engine.new }
     ensures kept { engine.new.stop ≡ stop_after result }
     ensures keeps { OnOk result (Kept engine.old engine.new) }
     ensures is { engine.new ≡ record engine.old { stop = engine.new.stop } }

@@ -1,12 +1,13 @@
 //! Executing: prefixes, and a row for each command.
 
 ghost use Rattle.std.specs.Prelude.{◌≡◌, length, None, IfOk, IfSome, OnOk};
+ghost use Rattle.texml_base.specs.Outside.{Shelf};
 ghost use Rattle.texml_token.specs.Numbers.{Table, token_at, TokenWithin};
 ghost use Rattle.texml_scope.specs.Numbers.{meaning_at};
 ghost use Rattle.texml_expand.specs.State.{State};
-ghost use Rattle.texml_expand.specs.Contract.{AnswersKept, Stops, Lower, outside};
-ghost use Rattle.texml_expand.specs.Hearing.{hears, hears_part, Follows};
-ghost use Rattle.texml_expand.specs.Held.{state_of, Sound, Kept, IsAtLimit};
+ghost use Rattle.texml_expand.specs.Contract.{AnswersKept, Stops, outside};
+ghost use Rattle.texml_expand.specs.Hearing.{hears, hears_part, FollowsTold};
+ghost use Rattle.texml_expand.specs.Held.{state_of, Sound, Kept, IsAtLimit, Owns, Holding, Shrinks};
 ghost use Rattle.texml_assign.specs.Advance.{Advances};
 ghost use Rattle.texml_assign.specs.Doing.{Does};
 ghost use Rattle.texml_assign.specs.Table.{executable_of as spec_executable_of};
@@ -18,7 +19,10 @@ ghost use Rattle.texml_assign.specs.Behind.{turn_of};
 use crate::arithmetic::arithmetic;
 use crate::assignments::assignment;
 use crate::define::{define, let_to};
+use crate::fillers::ignore_spaces;
+use crate::letters::change_case;
 use crate::new_command::new_command;
+use crate::new_if::new_if;
 use crate::operands::next_token;
 use crate::sets::{begin_group, end_group, put_kept, read_after};
 use crate::short_names::short_name;
@@ -69,16 +73,17 @@ pub fn execute<F: Files, T: Teller>(
     token: Token,
 ) -> Result<Executed, Stop>
     requires sound { engine.old.stop ≡ None → Sound engine.old }
+    requires owns { Owns (F.shelf files.old) engine.old }
     requires token { engine.old.stop ≡ None → TokenWithin (length engine.old.names) token }
-    ensures follows { engine.old.stop ≡ None → Follows (hears T.wanting T.heard) (hears_part T.wanting T.part) (executes (token_at engine.old.names token) (state_of engine.old)) result (state_of engine.new) tell.old tell.new }
-    ensures stops { engine.old.stop ≡ None → Stops result (outside (F.faults files.old) (T.faults tell.old)) (outside (F.faults files.new) (T.faults tell.new)) engine.new.stop }
-    ensures lower { engine.old.stop ≡ None → OnOk result (Lower 0 (state_of engine.old) (state_of engine.new)) }
+    ensures follows { engine.old.stop ≡ None → FollowsTold (hears T.wanting T.heard) (hears_part T.wanting T.part) (F.shelf files.old) (executes (token_at engine.old.names token) (state_of (F.shelf files.old) engine.old)) result (state_of (F.shelf files.new) engine.new) tell.old tell.new }
+    ensures stops { engine.old.stop ≡ None → Stops result (outside (F.shelf files.old) (F.faults files.old) (T.faults tell.old) (T.loan tell.old)) (outside (F.shelf files.new) (F.faults files.new) (T.faults tell.new) (T.loan tell.new)) engine.new.stop }
+    ensures lower { engine.old.stop ≡ None → OnOk result (Shrinks 0 (F.shelf files.old) engine.old (F.shelf files.new) engine.new) }
     ensures keeps { engine.old.stop ≡ None → OnOk result (Kept engine.old engine.new) }
     ensures advances { Advances engine.old engine.new }
     ensures limit { engine.old.stop ≡ None → IsAtLimit result engine.new }
-    ensures same { IfOk result (λ done. done ≡ Executed.NotMine → (engine.new ≡ engine.old) × (tell.new ≡ tell.old)) }
-    ensures stays { IfSome engine.old.stop (λ stop. AnswersKept stop result × (engine.new ≡ engine.old) × (tell.new ≡ tell.old)) }
-    ensures files { files.new ≡ files.old }
+    ensures same { IfOk result (λ done. done ≡ Executed.NotMine → (engine.new ≡ engine.old) × (files.new ≡ files.old) × (tell.new ≡ tell.old)) }
+    ensures stays { IfSome engine.old.stop (λ stop. AnswersKept stop result × (engine.new ≡ engine.old) × (files.new ≡ files.old) × (tell.new ≡ tell.old)) }
+    ensures holds { Holding (F.shelf files.old) (F.shelf files.new) engine.old engine.new }
 {
     engine.running()?;
     execute_meaning(alloc, engine, files, tell, token)
@@ -94,11 +99,11 @@ fn execute_meaning<F: Files, T: Teller>(
 ) -> Result<Executed, Stop>
     requires running { engine.old.stop ≡ None }
     requires sound { Sound engine.old }
+    requires owns { Owns (F.shelf files.old) engine.old }
     requires token { TokenWithin (length engine.old.names) token }
     ensures does { Does (hears T.wanting T.heard) (hears_part T.wanting T.part) (spec_execute (token_at engine.old.names token)) result engine.old engine.new
-        (outside (F.faults files.old) (T.faults tell.old)) (outside (F.faults files.new) (T.faults tell.new)) tell.old tell.new }
-    ensures same { IfOk result (λ done. done ≡ Executed.NotMine → (engine.new ≡ engine.old) × (tell.new ≡ tell.old)) }
-    ensures files { files.new ≡ files.old }
+        (outside (F.shelf files.old) (F.faults files.old) (T.faults tell.old) (T.loan tell.old)) (outside (F.shelf files.new) (F.faults files.new) (T.faults tell.new) (T.loan tell.new)) tell.old tell.new }
+    ensures same { IfOk result (λ done. done ≡ Executed.NotMine → (engine.new ≡ engine.old) × (files.new ≡ files.old) × (tell.new ≡ tell.old)) }
 {
     let meaning = match engine.means(token) {
         Ok(meaning) => meaning,
@@ -123,9 +128,9 @@ fn execute_word<F: Files, T: Teller>(
 ) -> Result<(), Stop>
     requires running { engine.old.stop ≡ None }
     requires sound { Sound engine.old }
+    requires owns { Owns (F.shelf files.old) engine.old }
     ensures does { Does (hears T.wanting T.heard) (hears_part T.wanting T.part) (spec_execute_word word) result engine.old engine.new
-        (outside (F.faults files.old) (T.faults tell.old)) (outside (F.faults files.new) (T.faults tell.new)) tell.old tell.new }
-    ensures files { files.new ≡ files.old }
+        (outside (F.shelf files.old) (F.faults files.old) (T.faults tell.old) (T.loan tell.old)) (outside (F.shelf files.new) (F.faults files.new) (T.faults tell.new) (T.loan tell.new)) tell.old tell.new }
 {
     match word {
         Executable::Command(command) => {
@@ -149,9 +154,9 @@ fn execute_prefixed<F: Files, T: Teller>(
 ) -> Result<(), Stop>
     requires running { engine.old.stop ≡ None }
     requires sound { Sound engine.old }
+    requires owns { Owns (F.shelf files.old) engine.old }
     ensures does { Does (hears T.wanting T.heard) (hears_part T.wanting T.part) (spec_execute_prefixed prefix) result engine.old engine.new
-        (outside (F.faults files.old) (T.faults tell.old)) (outside (F.faults files.new) (T.faults tell.new)) tell.old tell.new }
-    ensures files { files.new ≡ files.old }
+        (outside (F.shelf files.old) (F.faults files.old) (T.faults tell.old) (T.loan tell.old)) (outside (F.shelf files.new) (F.faults files.new) (T.faults tell.new) (T.loan tell.new)) tell.old tell.new }
 {
     let first = with_prefix(Prefixes::NONE, prefix);
     let found = prefixed(engine, files, tell, first)?;
@@ -183,9 +188,9 @@ fn perform<F: Files, T: Teller>(
 ) -> Result<(), Stop>
     requires running { engine.old.stop ≡ None }
     requires sound { Sound engine.old }
+    requires owns { Owns (F.shelf files.old) engine.old }
     ensures does { Does (hears T.wanting T.heard) (hears_part T.wanting T.part) (spec_perform prefixes command) result engine.old engine.new
-        (outside (F.faults files.old) (T.faults tell.old)) (outside (F.faults files.new) (T.faults tell.new)) tell.old tell.new }
-    ensures files { files.new ≡ files.old }
+        (outside (F.shelf files.old) (F.faults files.old) (T.faults tell.old) (T.loan tell.old)) (outside (F.shelf files.new) (F.faults files.new) (T.faults tell.new) (T.loan tell.new)) tell.old tell.new }
 {
     row(alloc, engine, files, tell, prefixes, command)?;
     if !is_assignment(command) {
@@ -205,18 +210,42 @@ fn row<F: Files, T: Teller>(
 ) -> Result<(), Stop>
     requires running { engine.old.stop ≡ None }
     requires sound { Sound engine.old }
+    requires owns { Owns (F.shelf files.old) engine.old }
     ensures does { Does (hears T.wanting T.heard) (hears_part T.wanting T.part) (spec_row prefixes command) result engine.old engine.new
-        (outside (F.faults files.old) (T.faults tell.old)) (outside (F.faults files.new) (T.faults tell.new)) tell.old tell.new }
-    ensures files { files.new ≡ files.old }
+        (outside (F.shelf files.old) (F.faults files.old) (T.faults tell.old) (T.loan tell.old)) (outside (F.shelf files.new) (F.faults files.new) (T.faults tell.new) (T.loan tell.new)) tell.old tell.new }
 {
     match command {
         Command::Relax => Ok(()),
         Command::Def => {
-            define(alloc, engine, files, tell, prefixes.global, prefixes.long)?;
+            define(
+                alloc,
+                engine,
+                files,
+                tell,
+                prefixes.global,
+                false,
+                prefixes.long,
+            )?;
             Ok(())
         }
         Command::Gdef => {
-            define(alloc, engine, files, tell, true, prefixes.long)?;
+            define(alloc, engine, files, tell, true, false, prefixes.long)?;
+            Ok(())
+        }
+        Command::Edef => {
+            define(
+                alloc,
+                engine,
+                files,
+                tell,
+                prefixes.global,
+                true,
+                prefixes.long,
+            )?;
+            Ok(())
+        }
+        Command::Xdef => {
+            define(alloc, engine, files, tell, true, true, prefixes.long)?;
             Ok(())
         }
         Command::Let => {
@@ -243,6 +272,18 @@ fn row<F: Files, T: Teller>(
             new_command(alloc, engine, files, tell, naming)?;
             Ok(())
         }
+        Command::NewIf => {
+            new_if(alloc, engine, files, tell)?;
+            Ok(())
+        }
+        Command::ChangeCase(case) => {
+            change_case(alloc, engine, files, tell, case)?;
+            Ok(())
+        }
+        Command::IgnoreSpaces => {
+            ignore_spaces(engine, files, tell)?;
+            Ok(())
+        }
         Command::Assign(target) => {
             assignment(engine, files, tell, prefixes.global, target)?;
             Ok(())
@@ -266,9 +307,9 @@ fn after_group<F: Files, T: Teller>(
 ) -> Result<(), Stop>
     requires running { engine.old.stop ≡ None }
     requires sound { Sound engine.old }
+    requires owns { Owns (F.shelf files.old) engine.old }
     ensures does { Does (hears T.wanting T.heard) (hears_part T.wanting T.part) (λ n. with_token spec_read_after) result engine.old engine.new
-        (outside (F.faults files.old) (T.faults tell.old)) (outside (F.faults files.new) (T.faults tell.new)) tell.old tell.new }
-    ensures files { files.new ≡ files.old }
+        (outside (F.shelf files.old) (F.faults files.old) (T.faults tell.old) (T.loan tell.old)) (outside (F.shelf files.new) (F.faults files.new) (T.faults tell.new) (T.loan tell.new)) tell.old tell.new }
 {
     let token = next_token(engine, files, tell)?;
     read_after(engine, token)
@@ -282,9 +323,9 @@ fn after_assignment<F: Files, T: Teller>(
 ) -> Result<(), Stop>
     requires running { engine.old.stop ≡ None }
     requires sound { Sound engine.old }
+    requires owns { Owns (F.shelf files.old) engine.old }
     ensures does { Does (hears T.wanting T.heard) (hears_part T.wanting T.part) (λ n. with_token keep_token) result engine.old engine.new
-        (outside (F.faults files.old) (T.faults tell.old)) (outside (F.faults files.new) (T.faults tell.new)) tell.old tell.new }
-    ensures files { files.new ≡ files.old }
+        (outside (F.shelf files.old) (F.faults files.old) (T.faults tell.old) (T.loan tell.old)) (outside (F.shelf files.new) (F.faults files.new) (T.faults tell.new) (T.loan tell.new)) tell.old tell.new }
 {
     let token = next_token(engine, files, tell)?;
     engine.keep(Some(token));
@@ -300,9 +341,9 @@ fn prefixed<F: Files, T: Teller>(
 ) -> Result<(Prefixes, Command), Stop>
     requires running { engine.old.stop ≡ None }
     requires sound { Sound engine.old }
+    requires owns { Owns (F.shelf files.old) engine.old }
     ensures does { Does (hears T.wanting T.heard) (hears_part T.wanting T.part) (spec_prefixed first) result engine.old engine.new
-        (outside (F.faults files.old) (T.faults tell.old)) (outside (F.faults files.new) (T.faults tell.new)) tell.old tell.new }
-    ensures files { files.new ≡ files.old }
+        (outside (F.shelf files.old) (F.faults files.old) (T.faults tell.old) (T.loan tell.old)) (outside (F.shelf files.new) (F.faults files.new) (T.faults tell.new) (T.loan tell.new)) tell.old tell.new }
 {
     let mut prefixes = first;
     'rounds: loop {
@@ -329,7 +370,7 @@ fn prefixed<F: Files, T: Teller>(
 fn token_behind(engine: &Engine, prefixes: Prefixes, token: Token) -> Result<Behind, AllocError>
     requires sound { Sound engine.now }
     requires token { TokenWithin (length engine.now.names) token }
-    ensures { IfOk result (λ b. prefix_turn prefixes (token_at engine.now.names token) 0 (state_of engine.now) ≡ turn_of prefixes b (state_of engine.now)) }
+    ensures { IfOk result (λ b. (shelf : Shelf) → prefix_turn prefixes (token_at engine.now.names token) 0 (state_of shelf engine.now) ≡ turn_of prefixes b (state_of shelf engine.now)) }
 {
     let meaning = engine.means(token)?;
     if means_space(&meaning) {

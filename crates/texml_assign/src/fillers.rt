@@ -1,16 +1,16 @@
 //! What may stand before a value.
 
-ghost use Rattle.std.specs.Prelude.{◌≡◌, length, None, IfOk, OnOk, option_map};
+ghost use Rattle.std.specs.Prelude.{◌≡◌, length, None, IfOk, OnOk, option_map, option_to_list};
 ghost use Rattle.texml_token.specs.Numbers.{Table, token_at, TokenWithin, OptionWithin};
 ghost use Rattle.texml_expand.specs.Take.{means};
 ghost use Rattle.texml_scope.specs.Numbers.{meaning_at};
-ghost use Rattle.texml_expand.specs.Contract.{Silent, outside, stop_after};
+ghost use Rattle.texml_expand.specs.Contract.{Local, outside, stop_after};
 ghost use Rattle.texml_expand.specs.Hearing.{hears, hears_part};
-ghost use Rattle.texml_expand.specs.Held.{state_of, Sound, Kept, ok_at};
+ghost use Rattle.texml_expand.specs.Held.{Sound, Kept, ok_at, world_in, Owns, SameFiles, Shrinks, Puts};
 ghost use Rattle.texml_expand.specs.Fronts.{looked_at, LookedWithin};
 ghost use Rattle.texml_assign.specs.Advance.{Advances};
 ghost use Rattle.texml_assign.specs.Doing.{Does};
-ghost use Rattle.texml_assign.specs.Fillers.{is_relax as spec_is_relax, fills as spec_fills, first_behind as spec_first_behind, past_equals as spec_past_equals, optional_equals as spec_optional_equals};
+ghost use Rattle.texml_assign.specs.Fillers.{is_relax as spec_is_relax, fills as spec_fills, first_behind as spec_first_behind, past_equals as spec_past_equals, optional_equals as spec_optional_equals, put_looked as spec_put_looked, ignore_spaces as spec_ignore_spaces};
 
 use crate::operands::is_equals;
 use crate::sets::put_back;
@@ -63,10 +63,11 @@ pub fn first_behind<F: Files, T: Teller>(
 ) -> Result<Option<Looked>, Stop>
     requires running { engine.old.stop ≡ None }
     requires sound { Sound engine.old }
+    requires owns { Owns (F.shelf files.old) engine.old }
     ensures does { Does (hears T.wanting T.heard) (hears_part T.wanting T.part) (spec_first_behind filler) (ok_at (option_map (looked_at engine.new.names)) result) engine.old engine.new
-        (outside (F.faults files.old) (T.faults tell.old)) (outside (F.faults files.new) (T.faults tell.new)) tell.old tell.new }
+        (outside (F.shelf files.old) (F.faults files.old) (T.faults tell.old) (T.loan tell.old)) (outside (F.shelf files.new) (F.faults files.new) (T.faults tell.new) (T.loan tell.new)) tell.old tell.new }
+    ensures takes { IfOk result (λ o. Shrinks (length (option_to_list o)) (F.shelf files.old) engine.old (F.shelf files.new) engine.new) }
     ensures within { IfOk result (OptionWithin (LookedWithin (length engine.new.names))) }
-    ensures files { files.new ≡ files.old }
 {
     'rounds: loop {
         let begun = engine.begun();
@@ -93,7 +94,7 @@ pub fn first_behind<F: Files, T: Teller>(
 fn may_fill(engine: &Engine, filler: Filler, token: Token) -> Result<bool, AllocError>
     requires sound { Sound engine.now }
     requires token { TokenWithin (length engine.now.names) token }
-    ensures { IfOk result (λ b. b ≡ spec_fills filler (means (state_of engine.now).world (token_at engine.now.names token))) }
+    ensures { IfOk result (λ b. b ≡ spec_fills filler (means (world_in engine.now) (token_at engine.now.names token))) }
 {
     let meaning = engine.means(token)?;
     Ok(fills(filler, &meaning))
@@ -112,9 +113,9 @@ pub fn optional_equals<F: Files, T: Teller>(
 ) -> Result<(), Stop>
     requires running { engine.old.stop ≡ None }
     requires sound { Sound engine.old }
+    requires owns { Owns (F.shelf files.old) engine.old }
     ensures does { Does (hears T.wanting T.heard) (hears_part T.wanting T.part) spec_optional_equals result engine.old engine.new
-        (outside (F.faults files.old) (T.faults tell.old)) (outside (F.faults files.new) (T.faults tell.new)) tell.old tell.new }
-    ensures files { files.new ≡ files.old }
+        (outside (F.shelf files.old) (F.faults files.old) (T.faults tell.old) (T.loan tell.old)) (outside (F.shelf files.new) (F.faults files.new) (T.faults tell.new) (T.loan tell.new)) tell.old tell.new }
 {
     let first = first_behind(engine, files, tell, Filler::Spaces)?;
     past_equals(engine, first)
@@ -125,10 +126,12 @@ fn past_equals(engine: &mut Engine, first: Option<Looked>) -> Result<(), Stop>
     requires running { engine.old.stop ≡ None }
     requires sound { Sound engine.old }
     requires first { OptionWithin (LookedWithin (length engine.old.names)) first }
-    ensures is { Silent (spec_past_equals (option_map (looked_at engine.old.names) first) (state_of engine.old)) result (state_of engine.new) }
+    ensures is { Local (spec_past_equals (option_map (looked_at engine.old.names) first)) result engine.old engine.new }
     ensures kept { engine.new.stop ≡ stop_after result }
     ensures keeps { OnOk result (Kept engine.old engine.new) }
     ensures advances { Advances engine.old engine.new }
+    ensures files { SameFiles engine.old engine.new }
+    ensures puts { OnOk result (Puts (length (option_to_list first)) engine.old engine.new) }
 {
     let Some(looked) = first else {
         return Ok(());
@@ -137,4 +140,43 @@ fn past_equals(engine: &mut Engine, first: Option<Looked>) -> Result<(), Stop>
         return Ok(());
     }
     put_back(engine, looked.token)
+}
+
+/// Passes over spaces. Tokens are expanded as they are looked at, and the one behind the spaces goes back, from then on not kept
+/// from being expanded (The TeXbook, chapter 24).
+///
+/// # Errors
+///
+/// The stops of the engine.
+pub fn ignore_spaces<F: Files, T: Teller>(
+    engine: &mut Engine,
+    files: &mut F,
+    tell: &mut T,
+) -> Result<(), Stop>
+    requires running { engine.old.stop ≡ None }
+    requires sound { Sound engine.old }
+    requires owns { Owns (F.shelf files.old) engine.old }
+    ensures does { Does (hears T.wanting T.heard) (hears_part T.wanting T.part) spec_ignore_spaces result engine.old engine.new
+        (outside (F.shelf files.old) (F.faults files.old) (T.faults tell.old) (T.loan tell.old)) (outside (F.shelf files.new) (F.faults files.new) (T.faults tell.new) (T.loan tell.new)) tell.old tell.new }
+{
+    let first = first_behind(engine, files, tell, Filler::Spaces)?;
+    put_looked(engine, first)
+}
+
+// Puts a token that was looked at back, if there is one.
+fn put_looked(engine: &mut Engine, looked: Option<Looked>) -> Result<(), Stop>
+    requires running { engine.old.stop ≡ None }
+    requires sound { Sound engine.old }
+    requires looked { OptionWithin (LookedWithin (length engine.old.names)) looked }
+    ensures is { Local (spec_put_looked (option_map (looked_at engine.old.names) looked)) result engine.old engine.new }
+    ensures kept { engine.new.stop ≡ stop_after result }
+    ensures keeps { OnOk result (Kept engine.old engine.new) }
+    ensures advances { Advances engine.old engine.new }
+    ensures files { SameFiles engine.old engine.new }
+    ensures puts { OnOk result (Puts (length (option_to_list looked)) engine.old engine.new) }
+{
+    match looked {
+        Some(looked) => put_back(engine, looked.token),
+        None => Ok(()),
+    }
 }

@@ -4,7 +4,7 @@
 //! the world is changed. The contract in a sentence: `execute` takes an engine from a state to the state that a row of the
 //! table of commands gives, with exactly the expansions on the way, or stops it for a reason that the row names, and does
 //! nothing where the token means no command.
-//! It stands on texml_base, texml_fixed, texml_token, texml_scope, texml_watch and texml_expand.
+//! It stands on texml_base, texml_fixed, texml_token, texml_scope, texml_watch, texml_input and texml_expand.
 #![tactic(auto)]
 
 mod arithmetic;
@@ -12,7 +12,9 @@ mod assignments;
 mod define;
 mod executing;
 mod fillers;
+mod letters;
 mod new_command;
+mod new_if;
 mod operands;
 mod parameters;
 mod sets;

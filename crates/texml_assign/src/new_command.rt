@@ -6,10 +6,10 @@ ghost use Rattle.texml_scope.specs.declared.values.ValueOf.TheVariants.{Means};
 ghost use Rattle.texml_scope.specs.World.{MaySet};
 ghost use Rattle.texml_scope.specs.Numbers.{MeaningCode, key_at, meaning_at, KeyWithin, MeaningWithin};
 ghost use Rattle.texml_token.specs.declared.fault_code.TheConstants.{NAME_TAKEN};
-ghost use Rattle.texml_expand.specs.Contract.{Silent, IsFaultAt, outside, stop_after};
+ghost use Rattle.texml_expand.specs.Contract.{IsFaultAt, outside, stop_after, Local};
 ghost use Rattle.texml_expand.specs.Expand.{spelling};
 ghost use Rattle.texml_expand.specs.Hearing.{hears, hears_part};
-ghost use Rattle.texml_expand.specs.Held.{state_of, Sound, Kept, ok_at};
+ghost use Rattle.texml_expand.specs.Held.{Sound, Kept, ok_at, place_of, Owns};
 ghost use Rattle.texml_assign.specs.Doing.{Does};
 ghost use Rattle.texml_token.specs.Token.{Token as TokenText};
 ghost use Rattle.texml_expand.specs.State.{State};
@@ -57,9 +57,9 @@ pub fn new_command<F: Files, T: Teller>(
 ) -> Result<(), Stop>
     requires running { engine.old.stop ≡ None }
     requires sound { Sound engine.old }
+    requires owns { Owns (F.shelf files.old) engine.old }
     ensures does { Does (hears T.wanting T.heard) (hears_part T.wanting T.part) (spec_new_command naming) result engine.old engine.new
-        (outside (F.faults files.old) (T.faults tell.old)) (outside (F.faults files.new) (T.faults tell.new)) tell.old tell.new }
-    ensures files { files.new ≡ files.old }
+        (outside (F.shelf files.old) (F.faults files.old) (T.faults tell.old) (T.loan tell.old)) (outside (F.shelf files.new) (F.faults files.new) (T.faults tell.new) (T.loan tell.new)) tell.old tell.new }
 {
     let star = starred(engine, files, tell)?;
     let key = command_key(alloc, engine, files, tell, naming)?;
@@ -78,9 +78,9 @@ fn starred<F: Files, T: Teller>(
 ) -> Result<bool, Stop>
     requires running { engine.old.stop ≡ None }
     requires sound { Sound engine.old }
+    requires owns { Owns (F.shelf files.old) engine.old }
     ensures does { Does (hears T.wanting T.heard) (hears_part T.wanting T.part) (λ n. spec_starred) result engine.old engine.new
-        (outside (F.faults files.old) (T.faults tell.old)) (outside (F.faults files.new) (T.faults tell.new)) tell.old tell.new }
-    ensures files { files.new ≡ files.old }
+        (outside (F.shelf files.old) (F.faults files.old) (T.faults tell.old) (T.loan tell.old)) (outside (F.shelf files.new) (F.faults files.new) (T.faults tell.new) (T.loan tell.new)) tell.old tell.new }
 {
     engine.read_sign(files, tell, STAR)
 }
@@ -95,11 +95,11 @@ fn command_key<F: Files, T: Teller>(
 ) -> Result<Option<Key>, Stop>
     requires running { engine.old.stop ≡ None }
     requires sound { Sound engine.old }
+    requires owns { Owns (F.shelf files.old) engine.old }
     ensures does { Does (hears T.wanting T.heard) (hears_part T.wanting T.part) (λ n. spec_command_key naming) (ok_at (option_map (key_at engine.new.names)) result) engine.old engine.new
-        (outside (F.faults files.old) (T.faults tell.old)) (outside (F.faults files.new) (T.faults tell.new)) tell.old tell.new }
+        (outside (F.shelf files.old) (F.faults files.old) (T.faults tell.old) (T.loan tell.old)) (outside (F.shelf files.new) (F.faults files.new) (T.faults tell.new) (T.loan tell.new)) tell.old tell.new }
     ensures within { IfOk result (OptionWithin (KeyWithin (length engine.new.names))) }
     ensures may { IfOk result (λ key. IfSome key (λ k. (meaning : MeaningCode) → MaySet k (Means meaning))) }
-    ensures files { files.new ≡ files.old }
 {
     let list = engine.read_argument(files, tell)?;
     key_of_name(alloc, engine, naming, only_token(&list))
@@ -132,7 +132,7 @@ fn key_of_name(
     requires running { engine.old.stop ≡ None }
     requires sound { Sound engine.old }
     requires name { OptionWithin (TokenWithin (length engine.old.names)) name }
-    ensures needs { Silent (spec_key_of_name naming (option_map (token_at engine.old.names) name) (state_of engine.old)) (ok_at (option_map (key_at engine.new.names)) result) (state_of engine.new) }
+    ensures needs { Local (spec_key_of_name naming (option_map (token_at engine.old.names) name)) (ok_at (option_map (key_at engine.new.names)) result) engine.old engine.new }
     ensures kept { engine.new.stop ≡ stop_after result }
     ensures keeps { OnOk result (Kept engine.old engine.new) }
     ensures is { engine.new ≡ record engine.old { stop = engine.new.stop } }
@@ -155,7 +155,7 @@ fn defines(alloc: Global, engine: &mut Engine, naming: Naming, token: Token) -> 
     requires running { engine.old.stop ≡ None }
     requires sound { Sound engine.old }
     requires token { TokenWithin (length engine.old.names) token }
-    ensures defines { Silent (spec_defines_now naming (token_at engine.old.names token) (state_of engine.old)) result (state_of engine.new) }
+    ensures defines { Local (spec_defines_now naming (token_at engine.old.names token)) result engine.old engine.new }
     ensures kept { engine.new.stop ≡ stop_after result }
     ensures keeps { OnOk result (Kept engine.old engine.new) }
     ensures is { engine.new ≡ record engine.old { stop = engine.new.stop } }
@@ -205,7 +205,7 @@ fn judged(naming: Naming, meaning: &Meaning) -> Allowed
 fn name_taken(alloc: Global, engine: &mut Engine, token: Token) -> Stop
     requires running { engine.old.stop ≡ None }
     requires token { TokenWithin (length engine.old.names) token }
-    ensures is { IsFaultAt NAME_TAKEN (spelling (token_at engine.old.names token)) engine.old.place result }
+    ensures is { IsFaultAt NAME_TAKEN (spelling (token_at engine.old.names token)) (place_of engine.old) result }
     ensures kept { engine.new ≡ record engine.old { stop = Some result } }
 {
     let mut about = Bytes::new(alloc);
@@ -246,10 +246,10 @@ fn command_macro<F: Files, T: Teller>(
 ) -> Result<Meaning, Stop>
     requires running { engine.old.stop ≡ None }
     requires sound { Sound engine.old }
+    requires owns { Owns (F.shelf files.old) engine.old }
     ensures does { Does (hears T.wanting T.heard) (hears_part T.wanting T.part) (λ n. spec_command_macro long) (ok_at (meaning_at engine.new.names) result) engine.old engine.new
-        (outside (F.faults files.old) (T.faults tell.old)) (outside (F.faults files.new) (T.faults tell.new)) tell.old tell.new }
+        (outside (F.shelf files.old) (F.faults files.old) (T.faults tell.old) (T.loan tell.old)) (outside (F.shelf files.new) (F.faults files.new) (T.faults tell.new) (T.loan tell.new)) tell.old tell.new }
     ensures within { IfOk result (MeaningWithin (length engine.new.names)) }
-    ensures files { files.new ≡ files.old }
 {
     let slots = parameter_count(engine, files, tell)?;
     let default = first_default(engine, files, tell, slots)?;
@@ -268,10 +268,10 @@ fn parameter_count<F: Files, T: Teller>(
 ) -> Result<u8, Stop>
     requires running { engine.old.stop ≡ None }
     requires sound { Sound engine.old }
+    requires owns { Owns (F.shelf files.old) engine.old }
     ensures does { Does (hears T.wanting T.heard) (hears_part T.wanting T.part) (λ n. spec_parameter_count) result engine.old engine.new
-        (outside (F.faults files.old) (T.faults tell.old)) (outside (F.faults files.new) (T.faults tell.new)) tell.old tell.new }
+        (outside (F.shelf files.old) (F.faults files.old) (T.faults tell.old) (T.loan tell.old)) (outside (F.shelf files.new) (F.faults files.new) (T.faults tell.new) (T.loan tell.new)) tell.old tell.new }
     ensures few { IfOk result (λ slots. slots ≤ 9) }
-    ensures files { files.new ≡ files.old }
 {
     let said = engine.read_optional(files, tell)?;
     number_said(engine, &said)
@@ -281,7 +281,7 @@ fn parameter_count<F: Files, T: Teller>(
 fn number_said(engine: &mut Engine, said: &Option<Tokens>) -> Result<u8, Stop>
     requires running { engine.old.stop ≡ None }
     requires sound { Sound engine.old }
-    ensures needs { Silent (spec_number_said (option_map (tokens_at engine.old.names) said.now) (state_of engine.old)) result (state_of engine.new) }
+    ensures needs { Local (spec_number_said (option_map (tokens_at engine.old.names) said.now)) result engine.old engine.new }
     ensures kept { engine.new.stop ≡ stop_after result }
     ensures keeps { OnOk result (Kept engine.old engine.new) }
     ensures is { engine.new ≡ record engine.old { stop = engine.new.stop } }
@@ -317,11 +317,11 @@ fn first_default<F: Files, T: Teller>(
 ) -> Result<Option<Tokens>, Stop>
     requires running { engine.old.stop ≡ None }
     requires sound { Sound engine.old }
+    requires owns { Owns (F.shelf files.old) engine.old }
     ensures does { Does (hears T.wanting T.heard) (hears_part T.wanting T.part) (λ n. spec_first_default slots) (ok_at (option_map (tokens_at engine.new.names)) result) engine.old engine.new
-        (outside (F.faults files.old) (T.faults tell.old)) (outside (F.faults files.new) (T.faults tell.new)) tell.old tell.new }
+        (outside (F.shelf files.old) (F.faults files.old) (T.faults tell.old) (T.loan tell.old)) (outside (F.shelf files.new) (F.faults files.new) (T.faults tell.new) (T.loan tell.new)) tell.old tell.new }
     ensures within { IfOk result (OptionWithin (TokensWithin (length engine.new.names))) }
     ensures fits { IfOk result (λ default. IfSome default (λ list. 1 ≤ slots)) }
-    ensures files { files.new ≡ files.old }
 {
     let default = engine.read_optional(files, tell)?;
     fitting(engine, slots, default)
@@ -332,7 +332,7 @@ fn fitting(engine: &mut Engine, slots: u8, default: Option<Tokens>) -> Result<Op
     requires running { engine.old.stop ≡ None }
     requires sound { Sound engine.old }
     requires default { OptionWithin (TokensWithin (length engine.old.names)) default }
-    ensures needs { Silent (spec_fitting slots (option_map (tokens_at engine.old.names) default) (state_of engine.old)) (ok_at (option_map (tokens_at engine.new.names)) result) (state_of engine.new) }
+    ensures needs { Local (spec_fitting slots (option_map (tokens_at engine.old.names) default)) (ok_at (option_map (tokens_at engine.new.names)) result) engine.old engine.new }
     ensures kept { engine.new.stop ≡ stop_after result }
     ensures keeps { OnOk result (Kept engine.old engine.new) }
     ensures is { engine.new ≡ record engine.old { stop = engine.new.stop } }
@@ -356,10 +356,10 @@ fn argument_body<F: Files, T: Teller>(
 ) -> Result<Tokens, Stop>
     requires running { engine.old.stop ≡ None }
     requires sound { Sound engine.old }
+    requires owns { Owns (F.shelf files.old) engine.old }
     ensures does { Does (hears T.wanting T.heard) (hears_part T.wanting T.part) (λ n. spec_argument_body slots) (ok_at (tokens_at engine.new.names) result) engine.old engine.new
-        (outside (F.faults files.old) (T.faults tell.old)) (outside (F.faults files.new) (T.faults tell.new)) tell.old tell.new }
+        (outside (F.shelf files.old) (F.faults files.old) (T.faults tell.old) (T.loan tell.old)) (outside (F.shelf files.new) (F.faults files.new) (T.faults tell.new) (T.loan tell.new)) tell.old tell.new }
     ensures within { IfOk result (BodyWithin (length engine.new.names) slots) }
-    ensures files { files.new ≡ files.old }
 {
     let list = engine.read_argument(files, tell)?;
     body_said(alloc, engine, slots, &list)

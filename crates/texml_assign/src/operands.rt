@@ -1,13 +1,13 @@
 //! What commands read behind them.
 
-ghost use Rattle.std.specs.Prelude.{◌≡◌, length, None, IfOk, OnOk, option_map};
+ghost use Rattle.std.specs.Prelude.{◌≡◌, length, None, IfOk, OnOk, option_map, option_to_list};
 ghost use Rattle.texml_token.specs.Numbers.{Table, token_at, TokenWithin, OptionWithin};
 ghost use Rattle.texml_scope.specs.declared.values.ValueOf.TheVariants.{Means};
 ghost use Rattle.texml_scope.specs.World.{MaySet};
 ghost use Rattle.texml_scope.specs.Numbers.{MeaningCode, key_at, meaning_at, KeyWithin, MeaningWithin};
-ghost use Rattle.texml_expand.specs.Contract.{Silent, outside, stop_after};
+ghost use Rattle.texml_expand.specs.Contract.{Local, outside, stop_after};
 ghost use Rattle.texml_expand.specs.Hearing.{hears, hears_part};
-ghost use Rattle.texml_expand.specs.Held.{state_of, Sound, Kept, ok_at};
+ghost use Rattle.texml_expand.specs.Held.{Sound, Kept, ok_at, world_in, Owns, Shrinks};
 ghost use Rattle.texml_expand.specs.Arguments.{means_space as spec_means_space};
 ghost use Rattle.texml_assign.specs.Doing.{Does};
 ghost use Rattle.texml_expand.specs.Take.{means};
@@ -36,10 +36,12 @@ pub fn token_or_end<F: Files, T: Teller>(
 ) -> Result<Option<Token>, Stop>
     requires running { engine.old.stop ≡ None }
     requires sound { Sound engine.old }
+    requires owns { Owns (F.shelf files.old) engine.old }
     ensures does { Does (hears T.wanting T.heard) (hears_part T.wanting T.part) (λ n. spec_token_or_end) (ok_at (option_map (token_at engine.new.names)) result) engine.old engine.new
-        (outside (F.faults files.old) (T.faults tell.old)) (outside (F.faults files.new) (T.faults tell.new)) tell.old tell.new }
+        (outside (F.shelf files.old) (F.faults files.old) (T.faults tell.old) (T.loan tell.old)) (outside (F.shelf files.new) (F.faults files.new) (T.faults tell.new) (T.loan tell.new)) tell.old tell.new }
+    ensures takes { IfOk result (λ o. Shrinks (length (option_to_list o)) (F.shelf files.old) engine.old (F.shelf files.new) engine.new) }
+    ensures begun { engine.new.begun ≡ engine.old.begun }
     ensures within { IfOk result (OptionWithin (TokenWithin (length engine.new.names))) }
-    ensures files { files.new ≡ files.old }
 {
     let taken = engine.take(files, tell)?;
     match taken {
@@ -60,10 +62,11 @@ pub fn next_token<F: Files, T: Teller>(
 ) -> Result<Token, Stop>
     requires running { engine.old.stop ≡ None }
     requires sound { Sound engine.old }
+    requires owns { Owns (F.shelf files.old) engine.old }
     ensures does { Does (hears T.wanting T.heard) (hears_part T.wanting T.part) (λ n. spec_next_token) (ok_at (token_at engine.new.names) result) engine.old engine.new
-        (outside (F.faults files.old) (T.faults tell.old)) (outside (F.faults files.new) (T.faults tell.new)) tell.old tell.new }
+        (outside (F.shelf files.old) (F.faults files.old) (T.faults tell.old) (T.loan tell.old)) (outside (F.shelf files.new) (F.faults files.new) (T.faults tell.new) (T.loan tell.new)) tell.old tell.new }
+    ensures takes { OnOk result (Shrinks 1 (F.shelf files.old) engine.old (F.shelf files.new) engine.new) }
     ensures within { IfOk result (TokenWithin (length engine.new.names)) }
-    ensures files { files.new ≡ files.old }
 {
     let next = token_or_end(engine, files, tell)?;
     match next {
@@ -84,9 +87,9 @@ pub fn look_ahead<F: Files, T: Teller>(
 ) -> Result<(), Stop>
     requires running { engine.old.stop ≡ None }
     requires sound { Sound engine.old }
+    requires owns { Owns (F.shelf files.old) engine.old }
     ensures does { Does (hears T.wanting T.heard) (hears_part T.wanting T.part) (λ n. spec_look_ahead) result engine.old engine.new
-        (outside (F.faults files.old) (T.faults tell.old)) (outside (F.faults files.new) (T.faults tell.new)) tell.old tell.new }
-    ensures files { files.new ≡ files.old }
+        (outside (F.shelf files.old) (F.faults files.old) (T.faults tell.old) (T.loan tell.old)) (outside (F.shelf files.new) (F.faults files.new) (T.faults tell.new) (T.loan tell.new)) tell.old tell.new }
 {
     let token = next_token(engine, files, tell)?;
     put_back(engine, token)
@@ -104,11 +107,11 @@ pub fn next_key<F: Files, T: Teller>(
 ) -> Result<Key, Stop>
     requires running { engine.old.stop ≡ None }
     requires sound { Sound engine.old }
+    requires owns { Owns (F.shelf files.old) engine.old }
     ensures does { Does (hears T.wanting T.heard) (hears_part T.wanting T.part) (λ n. spec_next_key) (ok_at (key_at engine.new.names) result) engine.old engine.new
-        (outside (F.faults files.old) (T.faults tell.old)) (outside (F.faults files.new) (T.faults tell.new)) tell.old tell.new }
+        (outside (F.shelf files.old) (F.faults files.old) (T.faults tell.old) (T.loan tell.old)) (outside (F.shelf files.new) (F.faults files.new) (T.faults tell.new) (T.loan tell.new)) tell.old tell.new }
     ensures within { IfOk result (KeyWithin (length engine.new.names)) }
     ensures may { IfOk result (λ key. (meaning : MeaningCode) → MaySet key (Means meaning)) }
-    ensures files { files.new ≡ files.old }
 {
     let token = next_token(engine, files, tell)?;
     key_of(engine, token)
@@ -123,7 +126,7 @@ pub fn key_of(engine: &mut Engine, token: Token) -> Result<Key, Stop>
     requires running { engine.old.stop ≡ None }
     requires sound { Sound engine.old }
     requires token { TokenWithin (length engine.old.names) token }
-    ensures key { Silent (spec_key_of (token_at engine.old.names token) (state_of engine.old)) (ok_at (key_at engine.new.names) result) (state_of engine.new) }
+    ensures key { Local (spec_key_of (token_at engine.old.names token)) (ok_at (key_at engine.new.names) result) engine.old engine.new }
     ensures kept { engine.new.stop ≡ stop_after result }
     ensures keeps { OnOk result (Kept engine.old engine.new) }
     ensures is { engine.new ≡ record engine.old { stop = engine.new.stop } }
@@ -142,7 +145,7 @@ pub fn key_of(engine: &mut Engine, token: Token) -> Result<Key, Stop>
 fn token_is_space(engine: &Engine, token: Token) -> Result<bool, AllocError>
     requires sound { Sound engine.now }
     requires token { TokenWithin (length engine.now.names) token }
-    ensures { IfOk result (λ b. b ≡ spec_means_space (means (state_of engine.now).world (token_at engine.now.names token))) }
+    ensures { IfOk result (λ b. b ≡ spec_means_space (means (world_in engine.now) (token_at engine.now.names token))) }
 {
     let meaning = engine.means(token)?;
     Ok(means_space(&meaning))
@@ -160,10 +163,10 @@ pub fn behind_spaces<F: Files, T: Teller>(
 ) -> Result<Token, Stop>
     requires running { engine.old.stop ≡ None }
     requires sound { Sound engine.old }
+    requires owns { Owns (F.shelf files.old) engine.old }
     ensures does { Does (hears T.wanting T.heard) (hears_part T.wanting T.part) spec_behind_spaces (ok_at (token_at engine.new.names) result) engine.old engine.new
-        (outside (F.faults files.old) (T.faults tell.old)) (outside (F.faults files.new) (T.faults tell.new)) tell.old tell.new }
+        (outside (F.shelf files.old) (F.faults files.old) (T.faults tell.old) (T.loan tell.old)) (outside (F.shelf files.new) (F.faults files.new) (T.faults tell.new) (T.loan tell.new)) tell.old tell.new }
     ensures within { IfOk result (TokenWithin (length engine.new.names)) }
-    ensures files { files.new ≡ files.old }
 {
     'spaces: loop {
         let token = match token_or_end(engine, files, tell)? {
@@ -189,11 +192,11 @@ fn behind_space<F: Files, T: Teller>(
 ) -> Result<Token, Stop>
     requires running { engine.old.stop ≡ None }
     requires sound { Sound engine.old }
+    requires owns { Owns (F.shelf files.old) engine.old }
     requires token { TokenWithin (length engine.old.names) token }
     ensures does { Does (hears T.wanting T.heard) (hears_part T.wanting T.part) (λ n. spec_behind_space (token_at engine.old.names token)) (ok_at (token_at engine.new.names) result) engine.old engine.new
-        (outside (F.faults files.old) (T.faults tell.old)) (outside (F.faults files.new) (T.faults tell.new)) tell.old tell.new }
+        (outside (F.shelf files.old) (F.faults files.old) (T.faults tell.old) (T.loan tell.old)) (outside (F.shelf files.new) (F.faults files.new) (T.faults tell.new) (T.loan tell.new)) tell.old tell.new }
     ensures within { IfOk result (TokenWithin (length engine.new.names)) }
-    ensures files { files.new ≡ files.old }
 {
     let space = match token_is_space(engine, token) {
         Ok(space) => space,
@@ -214,11 +217,11 @@ fn behind_equals<F: Files, T: Teller>(
 ) -> Result<Token, Stop>
     requires running { engine.old.stop ≡ None }
     requires sound { Sound engine.old }
+    requires owns { Owns (F.shelf files.old) engine.old }
     requires token { TokenWithin (length engine.old.names) token }
     ensures does { Does (hears T.wanting T.heard) (hears_part T.wanting T.part) (λ n. spec_behind_equals (token_at engine.old.names token)) (ok_at (token_at engine.new.names) result) engine.old engine.new
-        (outside (F.faults files.old) (T.faults tell.old)) (outside (F.faults files.new) (T.faults tell.new)) tell.old tell.new }
+        (outside (F.shelf files.old) (F.faults files.old) (T.faults tell.old) (T.loan tell.old)) (outside (F.shelf files.new) (F.faults files.new) (T.faults tell.new) (T.loan tell.new)) tell.old tell.new }
     ensures within { IfOk result (TokenWithin (length engine.new.names)) }
-    ensures files { files.new ≡ files.old }
 {
     if !is_equals(token) {
         return Ok(token);
@@ -249,10 +252,10 @@ pub fn meant<F: Files, T: Teller>(
 ) -> Result<Meaning, Stop>
     requires running { engine.old.stop ≡ None }
     requires sound { Sound engine.old }
+    requires owns { Owns (F.shelf files.old) engine.old }
     ensures does { Does (hears T.wanting T.heard) (hears_part T.wanting T.part) spec_meant (ok_at (meaning_at engine.new.names) result) engine.old engine.new
-        (outside (F.faults files.old) (T.faults tell.old)) (outside (F.faults files.new) (T.faults tell.new)) tell.old tell.new }
+        (outside (F.shelf files.old) (F.faults files.old) (T.faults tell.old) (T.loan tell.old)) (outside (F.shelf files.new) (F.faults files.new) (T.faults tell.new) (T.loan tell.new)) tell.old tell.new }
     ensures within { IfOk result (MeaningWithin (length engine.new.names)) }
-    ensures files { files.new ≡ files.old }
 {
     let first = behind_spaces(engine, files, tell)?;
     let token = behind_equals(engine, files, tell, first)?;

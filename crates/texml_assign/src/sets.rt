@@ -10,8 +10,8 @@ ghost use Rattle.texml_scope.specs.declared.values.ValueOf.TheVariants.{Means};
 ghost use Rattle.texml_scope.specs.Numbers.{key_at, meaning_at, value_at, kind_at, KeyWithin, KindWithin, MeaningWithin, ValueWithin};
 ghost use Rattle.texml_expand.specs.State.{change};
 ghost use Rattle.texml_expand.specs.Expand.{back};
-ghost use Rattle.texml_expand.specs.Contract.{Silent, stop_after};
-ghost use Rattle.texml_expand.specs.Held.{state_of, Sound, Kept};
+ghost use Rattle.texml_expand.specs.Contract.{stop_after, Local};
+ghost use Rattle.texml_expand.specs.Held.{Sound, Kept, SameFiles, Puts};
 ghost use Rattle.texml_assign.specs.Advance.{Advances};
 ghost use Rattle.texml_assign.specs.Sets.{set as spec_set, assign as spec_assign, begin_kind, end_kind, end_code as spec_end_code, read_after as spec_read_after, put_kept as spec_put_kept};
 ghost use Rattle.texml_assign.specs.Setting.{set_by};
@@ -34,10 +34,12 @@ pub fn assign(engine: &mut Engine, global: bool, key: Key, meaning: Meaning) -> 
     requires key { KeyWithin (length engine.old.names) key }
     requires meaning { MeaningWithin (length engine.old.names) meaning }
     requires may { MaySet key (Means meaning) }
-    ensures sets { Silent (change (spec_assign global (key_at engine.old.names key) (meaning_at engine.old.names meaning)) (state_of engine.old)) result (state_of engine.new) }
+    ensures sets { Local (change (spec_assign global (key_at engine.old.names key) (meaning_at engine.old.names meaning))) result engine.old engine.new }
     ensures kept { engine.new.stop ≡ stop_after result }
     ensures keeps { OnOk result (Kept engine.old engine.new) }
     ensures advances { Advances engine.old engine.new }
+    ensures files { SameFiles engine.old engine.new }
+    ensures puts { OnOk result (Puts 0 engine.old engine.new) }
 {
     set(engine, global, key, Value::Means(meaning))
 }
@@ -53,10 +55,12 @@ pub fn set(engine: &mut Engine, global: bool, key: Key, value: Value) -> Result<
     requires key { KeyWithin (length engine.old.names) key }
     requires value { ValueWithin (length engine.old.names) value }
     requires may { MaySet key value }
-    ensures sets { Silent (change (spec_set global (key_at engine.old.names key) (value_at engine.old.names value)) (state_of engine.old)) result (state_of engine.new) }
+    ensures sets { Local (change (spec_set global (key_at engine.old.names key) (value_at engine.old.names value))) result engine.old engine.new }
     ensures kept { engine.new.stop ≡ stop_after result }
     ensures keeps { OnOk result (Kept engine.old engine.new) }
     ensures advances { Advances engine.old engine.new }
+    ensures files { SameFiles engine.old engine.new }
+    ensures puts { OnOk result (Puts 0 engine.old engine.new) }
 {
     let mut steps = Steps::new();
     let set = set_value(engine.scope(), global, key, value, &mut steps);
@@ -94,10 +98,12 @@ pub fn begin_group(engine: &mut Engine, kind: GroupKind) -> Result<(), Stop>
     requires running { engine.old.stop ≡ None }
     requires sound { Sound engine.old }
     requires kind { KindWithin (length engine.old.names) kind }
-    ensures begins { Silent (begin_kind (kind_at engine.old.names kind) (state_of engine.old)) result (state_of engine.new) }
+    ensures begins { Local (begin_kind (kind_at engine.old.names kind)) result engine.old engine.new }
     ensures kept { engine.new.stop ≡ stop_after result }
     ensures keeps { OnOk result (Kept engine.old engine.new) }
     ensures advances { Advances engine.old engine.new }
+    ensures files { SameFiles engine.old engine.new }
+    ensures puts { OnOk result (Puts 0 engine.old engine.new) }
 {
     match engine.scope().begin(kind) {
         Ok(()) => Ok(()),
@@ -116,10 +122,12 @@ pub fn end_group(engine: &mut Engine, kind: GroupKind) -> Result<(), Stop>
     requires running { engine.old.stop ≡ None }
     requires sound { Sound engine.old }
     requires kind { KindWithin (length engine.old.names) kind }
-    ensures ends { Silent (end_kind (kind_at engine.old.names kind) (state_of engine.old)) result (state_of engine.new) }
+    ensures ends { Local (end_kind (kind_at engine.old.names kind)) result engine.old engine.new }
     ensures kept { engine.new.stop ≡ stop_after result }
     ensures keeps { OnOk result (Kept engine.old engine.new) }
     ensures advances { Advances engine.old engine.new }
+    ensures files { SameFiles engine.old engine.new }
+    ensures puts { OnOk result (Puts 0 engine.old engine.new) }
 {
     let mut steps = Steps::new();
     let ended = engine.scope().end(kind, &mut steps);
@@ -149,10 +157,12 @@ pub fn read_after(engine: &mut Engine, token: Token) -> Result<(), Stop>
     requires running { engine.old.stop ≡ None }
     requires sound { Sound engine.old }
     requires token { TokenWithin (length engine.old.names) token }
-    ensures keeps_token { Silent (change (spec_read_after (token_at engine.old.names token)) (state_of engine.old)) result (state_of engine.new) }
+    ensures keeps_token { Local (change (spec_read_after (token_at engine.old.names token))) result engine.old engine.new }
     ensures kept { engine.new.stop ≡ stop_after result }
     ensures keeps { OnOk result (Kept engine.old engine.new) }
     ensures advances { Advances engine.old engine.new }
+    ensures files { SameFiles engine.old engine.new }
+    ensures puts { OnOk result (Puts 1 engine.old engine.new) }
 {
     match engine.scope().after_group(token) {
         Ok(()) => Ok(()),
@@ -169,10 +179,12 @@ pub fn put_back(engine: &mut Engine, token: Token) -> Result<(), Stop>
     requires running { engine.old.stop ≡ None }
     requires sound { Sound engine.old }
     requires token { TokenWithin (length engine.old.names) token }
-    ensures puts { Silent (change (back (token_at engine.old.names token) false) (state_of engine.old)) result (state_of engine.new) }
+    ensures changes { Local (change (back (token_at engine.old.names token) false)) result engine.old engine.new }
     ensures kept { engine.new.stop ≡ stop_after result }
     ensures keeps { OnOk result (Kept engine.old engine.new) }
     ensures advances { Advances engine.old engine.new }
+    ensures files { SameFiles engine.old engine.new }
+    ensures puts { OnOk result (Puts 1 engine.old engine.new) }
 {
     engine.back(token, false)
 }
@@ -185,10 +197,12 @@ pub fn put_back(engine: &mut Engine, token: Token) -> Result<(), Stop>
 pub fn put_kept(engine: &mut Engine) -> Result<(), Stop>
     requires running { engine.old.stop ≡ None }
     requires sound { Sound engine.old }
-    ensures puts { Silent (change spec_put_kept (state_of engine.old)) result (state_of engine.new) }
+    ensures changes { Local (change spec_put_kept) result engine.old engine.new }
     ensures kept { engine.new.stop ≡ stop_after result }
     ensures keeps { OnOk result (Kept engine.old engine.new) }
     ensures advances { Advances engine.old engine.new }
+    ensures files { SameFiles engine.old engine.new }
+    ensures puts { OnOk result (Puts 0 engine.old engine.new) }
 {
     match engine.kept() {
         None => Ok(()),

@@ -7,7 +7,7 @@ ghost use Rattle.texml_scope.specs.World.{MaySet};
 ghost use Rattle.texml_scope.specs.declared.values.ValueOf.TheVariants.{Means};
 ghost use Rattle.texml_expand.specs.Contract.{outside};
 ghost use Rattle.texml_expand.specs.Hearing.{hears, hears_part};
-ghost use Rattle.texml_expand.specs.Held.{state_of, Sound};
+ghost use Rattle.texml_expand.specs.Held.{Sound, Owns};
 ghost use Rattle.texml_expand.specs.VariableCodes.{HasNumber};
 ghost use Rattle.texml_assign.specs.Doing.{Does};
 ghost use Rattle.texml_assign.specs.ShortNames.{short_index as spec_short_index, short_meaning as spec_short_meaning, short_number as spec_short_number, short_equals as spec_short_equals, short_key as spec_short_key, short_name as spec_short_name};
@@ -39,9 +39,9 @@ pub fn short_name<F: Files, T: Teller>(
 ) -> Result<(), Stop>
     requires running { engine.old.stop ≡ None }
     requires sound { Sound engine.old }
+    requires owns { Owns (F.shelf files.old) engine.old }
     ensures does { Does (hears T.wanting T.heard) (hears_part T.wanting T.part) (spec_short_name global what) result engine.old engine.new
-        (outside (F.faults files.old) (T.faults tell.old)) (outside (F.faults files.new) (T.faults tell.new)) tell.old tell.new }
-    ensures files { files.new ≡ files.old }
+        (outside (F.shelf files.old) (F.faults files.old) (T.faults tell.old) (T.loan tell.old)) (outside (F.shelf files.new) (F.faults files.new) (T.faults tell.new) (T.loan tell.new)) tell.old tell.new }
 {
     let key = next_key(engine, files, tell)?;
     short_key(engine, files, tell, global, what, key)
@@ -58,11 +58,11 @@ fn short_key<F: Files, T: Teller>(
 ) -> Result<(), Stop>
     requires running { engine.old.stop ≡ None }
     requires sound { Sound engine.old }
+    requires owns { Owns (F.shelf files.old) engine.old }
     requires key { KeyWithin (length engine.old.names) key }
     requires may { (meaning : MeaningCode) → MaySet key (Means meaning) }
     ensures does { Does (hears T.wanting T.heard) (hears_part T.wanting T.part) (spec_short_key global what (key_at engine.old.names key)) result engine.old engine.new
-        (outside (F.faults files.old) (T.faults tell.old)) (outside (F.faults files.new) (T.faults tell.new)) tell.old tell.new }
-    ensures files { files.new ≡ files.old }
+        (outside (F.shelf files.old) (F.faults files.old) (T.faults tell.old) (T.loan tell.old)) (outside (F.shelf files.new) (F.faults files.new) (T.faults tell.new) (T.loan tell.new)) tell.old tell.new }
 {
     assign(engine, global, key, Meaning::Builtin(RELAX))?;
     short_equals(engine, files, tell, global, what, key)
@@ -79,11 +79,11 @@ fn short_equals<F: Files, T: Teller>(
 ) -> Result<(), Stop>
     requires running { engine.old.stop ≡ None }
     requires sound { Sound engine.old }
+    requires owns { Owns (F.shelf files.old) engine.old }
     requires key { KeyWithin (length engine.old.names) key }
     requires may { (meaning : MeaningCode) → MaySet key (Means meaning) }
     ensures does { Does (hears T.wanting T.heard) (hears_part T.wanting T.part) (spec_short_equals global what (key_at engine.old.names key)) result engine.old engine.new
-        (outside (F.faults files.old) (T.faults tell.old)) (outside (F.faults files.new) (T.faults tell.new)) tell.old tell.new }
-    ensures files { files.new ≡ files.old }
+        (outside (F.shelf files.old) (F.faults files.old) (T.faults tell.old) (T.loan tell.old)) (outside (F.shelf files.new) (F.faults files.new) (T.faults tell.new) (T.loan tell.new)) tell.old tell.new }
 {
     optional_equals(engine, files, tell)?;
     short_number(engine, files, tell, global, what, key)
@@ -100,11 +100,11 @@ fn short_number<F: Files, T: Teller>(
 ) -> Result<(), Stop>
     requires running { engine.old.stop ≡ None }
     requires sound { Sound engine.old }
+    requires owns { Owns (F.shelf files.old) engine.old }
     requires key { KeyWithin (length engine.old.names) key }
     requires may { (meaning : MeaningCode) → MaySet key (Means meaning) }
     ensures does { Does (hears T.wanting T.heard) (hears_part T.wanting T.part) (spec_short_number global what (key_at engine.old.names key)) result engine.old engine.new
-        (outside (F.faults files.old) (T.faults tell.old)) (outside (F.faults files.new) (T.faults tell.new)) tell.old tell.new }
-    ensures files { files.new ≡ files.old }
+        (outside (F.shelf files.old) (F.faults files.old) (T.faults tell.old) (T.loan tell.old)) (outside (F.shelf files.new) (F.faults files.new) (T.faults tell.new) (T.loan tell.new)) tell.old tell.new }
 {
     let number = engine.read_index(files, tell, short_index(what))?;
     assign(engine, global, key, short_meaning(what, number))

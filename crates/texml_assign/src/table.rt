@@ -3,12 +3,13 @@
 ghost use Rattle.std.specs.Prelude.{◌≡◌};
 ghost use Rattle.texml_assign.specs.Table.{executable_at, is_definition, is_assignment, with_prefix, may_follow};
 
+use crate::letters::Case;
 use crate::targets::{Registers, Target};
 use texml_expand::variable_at;
 use texml_scope::builtins::{
     ADVANCE, AFTERASSIGNMENT, AFTERGROUP, BEGINGROUP, CHARDEF, COUNTDEF, DEF, DIMENDEF, DIVIDE,
-    ENDGROUP, GDEF, GLOBAL, LET, LONG, MULTIPLY, NEWCOMMAND, OUTER, PROVIDECOMMAND, RELAX,
-    RENEWCOMMAND, SKIPDEF, TOKSDEF,
+    EDEF, ENDGROUP, GDEF, GLOBAL, IGNORESPACES, LET, LONG, LOWERCASE, MULTIPLY, NEWCOMMAND, NEWIF,
+    OUTER, PROVIDECOMMAND, RELAX, RENEWCOMMAND, SKIPDEF, TOKSDEF, UPPERCASE, XDEF,
 };
 
 /// A prefix of commands (The TeXbook, chapter 24).
@@ -48,12 +49,17 @@ pub enum Command {
     Relax,
     Def,
     Gdef,
+    Edef,
+    Xdef,
     Let,
     BeginGroup,
     EndGroup,
     AfterGroup,
     AfterAssignment,
     NewCommand(Naming),
+    NewIf,
+    ChangeCase(Case),
+    IgnoreSpaces,
     Assign(Target),
     Short(ShortFor),
     Arithmetic(Arithmetic),
@@ -91,6 +97,8 @@ pub fn executable_at(place: u16) -> Option<Executable>
         RELAX => Some(Executable::Command(Command::Relax)),
         DEF => Some(Executable::Command(Command::Def)),
         GDEF => Some(Executable::Command(Command::Gdef)),
+        EDEF => Some(Executable::Command(Command::Edef)),
+        XDEF => Some(Executable::Command(Command::Xdef)),
         LET => Some(Executable::Command(Command::Let)),
         LONG => Some(Executable::Prefix(Prefix::Long)),
         OUTER => Some(Executable::Prefix(Prefix::Outer)),
@@ -102,6 +110,10 @@ pub fn executable_at(place: u16) -> Option<Executable>
         NEWCOMMAND => Some(Executable::Command(Command::NewCommand(Naming::New))),
         RENEWCOMMAND => Some(Executable::Command(Command::NewCommand(Naming::Renew))),
         PROVIDECOMMAND => Some(Executable::Command(Command::NewCommand(Naming::Provide))),
+        NEWIF => Some(Executable::Command(Command::NewIf)),
+        LOWERCASE => Some(Executable::Command(Command::ChangeCase(Case::Small))),
+        UPPERCASE => Some(Executable::Command(Command::ChangeCase(Case::Capital))),
+        IGNORESPACES => Some(Executable::Command(Command::IgnoreSpaces)),
         CHARDEF => Some(Executable::Command(Command::Short(ShortFor::Character))),
         COUNTDEF => Some(short(Registers::Count)),
         DIMENDEF => Some(short(Registers::Dimen)),
@@ -128,7 +140,10 @@ fn short(registers: Registers) -> Executable
 pub fn is_definition(command: Command) -> bool
     ensures { result ≡ is_definition command }
 {
-    matches!(command, Command::Def | Command::Gdef)
+    matches!(
+        command,
+        Command::Def | Command::Gdef | Command::Edef | Command::Xdef
+    )
 }
 
 /// Whether a command is an assignment, behind which the token of `\afterassignment` comes.
@@ -139,6 +154,8 @@ pub fn is_assignment(command: Command) -> bool
         command,
         Command::Def
             | Command::Gdef
+            | Command::Edef
+            | Command::Xdef
             | Command::Let
             | Command::Assign(_)
             | Command::Short(_)

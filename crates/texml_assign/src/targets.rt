@@ -7,7 +7,7 @@ ghost use Rattle.texml_token.specs.Numbers.{Table};
 ghost use Rattle.texml_expand.specs.VariableCodes.{key_by};
 ghost use Rattle.texml_expand.specs.Contract.{outside};
 ghost use Rattle.texml_expand.specs.Hearing.{hears, hears_part};
-ghost use Rattle.texml_expand.specs.Held.{state_of, Sound, ok_at};
+ghost use Rattle.texml_expand.specs.Held.{Sound, ok_at, Owns};
 ghost use Rattle.texml_assign.specs.Doing.{Does};
 ghost use Rattle.texml_assign.specs.Targets.{variable_in, register_of as spec_register_of, target_of as spec_target_of, variable_of as spec_variable_of, target_key as spec_target_key, is_counted, is_list as spec_is_list};
 ghost use Rattle.texml_assign.specs.TargetCodes.{IsKeyOf};
@@ -119,11 +119,11 @@ pub fn target_key<F: Files, T: Teller>(
 ) -> Result<Key, Stop>
     requires running { engine.old.stop ≡ None }
     requires sound { Sound engine.old }
+    requires owns { Owns (F.shelf files.old) engine.old }
     ensures does { Does (hears T.wanting T.heard) (hears_part T.wanting T.part) (spec_target_key target) (ok_at (key_at engine.new.names) result) engine.old engine.new
-        (outside (F.faults files.old) (T.faults tell.old)) (outside (F.faults files.new) (T.faults tell.new)) tell.old tell.new }
+        (outside (F.shelf files.old) (F.faults files.old) (T.faults tell.old) (T.loan tell.old)) (outside (F.shelf files.new) (F.faults files.new) (T.faults tell.new) (T.loan tell.new)) tell.old tell.new }
     ensures within { IfOk result (KeyWithin (length engine.new.names)) }
     ensures key { IfOk result (IsKeyOf (spec_variable_of target)) }
-    ensures files { files.new ≡ files.old }
 {
     match target {
         Target::Behind(variable) => {

@@ -1,5 +1,5 @@
 -- What the call of a macro gives, by numbers of names and by their texts.
-use Rattle.std.proofs.Common.{◌≡◌, ◌-◌, ◌==◌, ℕ, zero, suc, Bool, true, List, [], ◌∷◌, ◌++◌, length, map, Option, None, Some, option_map, Err, refl, sym, ap, ap₂, ◌∙◌, subst, arith, inl, inr}
+use Rattle.std.proofs.Common.{◌≡◌, ◌-◌, ◌==◌, ℕ, zero, suc, Bool, true, List, [], ◌∷◌, ◌++◌, length, map, Option, None, Some, option_map, Ok, Err, refl, sym, ap, ap₂, ◌∙◌, subst, arith, inl, inr}
 use Rattle.std.specs.List.{All}
 use Rattle.std.specs.Option.{option_to_list, unwrap_or}
 use Rattle.std.proofs.lemmas.Bool.{cases_lt, eqb-true}
@@ -18,16 +18,18 @@ use Rattle.texml_scope.specs.Numbers.{MacroWithin}
 use Rattle.texml_match.specs.Shape.{Shape, shape_at, shape_of, shape_from, leading, delimiters, pieces_left}
 use Rattle.texml_match.specs.Arguments.{reading}
 use Rattle.texml_expand.specs.declared.stop.Stop.{Stop}
+use Rattle.texml_expand.specs.declared.stop.Stop.TheVariants as stop
 use Rattle.texml_expand.specs.declared.feeding.Verdict.TheVariants.{Yields}
 use Rattle.texml_expand.specs.State.{State, nothing, Done, Reading, after, chain, give}
 use Rattle.texml_expand.specs.Arguments.{decided_by, read_by, optional, first_argument, macro_arguments, filled_token, filled, called}
 use Rattle.texml_expand.specs.Filling.{filling, fills}
 use Rattle.texml_expand.specs.Fronts.{MacroCode, macro_at}
-use Rattle.texml_expand.specs.Contract.{Silent, Lower}
-use Rattle.texml_expand.proofs.Leading.{leads_at}
+use Rattle.texml_expand.specs.Contract.{Outside}
+use Rattle.texml_expand.specs.Held.{Held, state_of}
+use Rattle.texml_expand.specs.Doing.{Gets}
 use Rattle.texml_expand.proofs.Least.{by_least_at}
-use Rattle.texml_expand.proofs.Sequence.{silent_then, silent_stops}
-use Rattle.texml_expand.proofs.Calling.{called_leads}
+use Rattle.texml_expand.proofs.Running.{runs_as, gets_runs}
+use Rattle.texml_expand.proofs.Getting.{gets_by, gets_then, gets_stop, gets_now, gets_out}
 
 -- a body with arguments in their places
 module _ (texts : Table) (args : List (List TokenCode)) where
@@ -114,56 +116,76 @@ macro_kept old new g m h = ap₂ (λ p b. record { long = m.long; params = p; bo
 pub lists_kept : (old new : Table) → Extends old new → (lists : List (List TokenCode)) → All (TokensWithin (length old)) lists → map (tokens_at new) lists ≡ map (tokens_at old) lists
 lists_kept old new g lists h = map_same (tokens_at new) (tokens_at old) (TokensWithin (length old)) (tokens_kept old new g) lists h
 
--- less is left to be read
-pub called_lower : (m : MacroCode) (texts : Table) (list : List Token) (s t : State) → called (macro_at texts m) s ≡ Done list t nothing → Lower 0 s t
-called_lower m texts list s t e = leads_at (λ l u. Lower 0 s u) (called (macro_at texts m) s) list t nothing e (called_leads (macro_at texts m) s)
-
 pub empty_list : {A : Type 0} (xs : List A) → (length xs == 0) ≡ true → xs ≡ []
 empty_list [] e = refl
 empty_list (x ∷ xs) e = let no = eqb-true (length (x ∷ xs)) 0 e in absurd (omega (arith, no))
 
 -- the first argument where nothing stands in brackets
-pub default_done : (long : Bool) (texts new : Table) → Extends texts new → (default : Option (List TokenCode)) (d copy : List TokenCode) (s t : State) → default ≡ Some d → OptionWithin (TokensWithin (length texts)) default
-    → optional long s ≡ Done None t nothing → copy ≡ d → first_argument long (option_map (tokens_at texts) default) s ≡ Done (tokens_at new copy ∷ []) t nothing
-default_done long texts new g default d copy s t e w h same =
-    ap (λ o. first_argument long (option_map (tokens_at texts) o) s) e
-    ∙ ap (λ a. chain a (λ found. give (unwrap_or found (tokens_at texts d) ∷ []))) h
-    ∙ ap (λ l. Done (l ∷ []) t nothing) (sym (tokens_kept texts new g d (subst (OptionWithin (TokensWithin (length texts))) e w)) ∙ ap (tokens_at new) (sym same))
+pub default_done : (long : Bool) (old new : Held) → Extends old.names new.names → (default : Option (List TokenCode)) (d copy : List TokenCode) (f g : Outside) → default ≡ Some d → OptionWithin (TokensWithin (length old.names)) default
+    → Gets (optional long) (Ok None) old new f g → copy ≡ d → Gets (first_argument long (option_map (tokens_at old.names) default)) (Ok (tokens_at new.names copy ∷ [])) old new f g
+default_done long old new grows default d copy f g e w h same =
+    gets_by (first_argument long (option_map (tokens_at old.names) default)) (Ok (tokens_at new.names copy ∷ [])) old new f g
+    (λ told.
+    ap (λ o. first_argument long (option_map (tokens_at old.names) o) (state_of f.shelf old)) e
+    ∙ ap (λ a. chain a (λ found. give (unwrap_or found (tokens_at old.names d) ∷ []))) (h.reads told)
+    ∙ ap (λ l. Done (l ∷ []) (state_of g.shelf new) nothing) (sym (tokens_kept old.names new.names grows d (subst (OptionWithin (TokensWithin (length old.names))) e w)) ∙ ap (tokens_at new.names) (sym same)))
+    (runs_as None (tokens_at new.names copy ∷ []) old new f g (gets_runs (optional long) (Ok None) old new f g h))
 
 -- all arguments
-module _ (old mid : Table) (g : Extends old mid) (m : MacroCode) (w : MacroWithin (length old) m) (shape : Shape TokenCode) (is : shape ≡ shape_of m.long m.params) (first : Option (List TokenCode)) (s t : State)
-    (reads : first_argument m.long (option_map (tokens_at old) m.params.default) s ≡ Done (map (tokens_at mid) (option_to_list first)) t nothing) where
+module _ (old mid : Held) (grows : Extends old.names mid.names) (m : MacroCode) (w : MacroWithin (length old.names) m) (shape : Shape TokenCode) (is : shape ≡ shape_of m.long m.params) (first : Option (List TokenCode)) (f g : Outside)
+    (reads : Gets (first_argument m.long (option_map (tokens_at old.names) m.params.default)) (Ok (map (tokens_at mid.names) (option_to_list first))) old mid f g) where
+  abbrev firsts : List (List Token)
+  firsts = map (tokens_at mid.names) (option_to_list first)
+
+  abbrev others_read : Reading (List (List Token))
+  others_read = read_by (reading (shape_of m.long (params_at old.names m.params)))
+
   abbrev onward : List (List Token) → Reading (List (List Token))
-  onward list u = chain (read_by (reading (shape_of m.long (params_at old m.params))) u) (λ rest. give (list ++ rest))
+  onward list u = chain (others_read u) (λ rest. give (list ++ rest))
 
-  shape_same : shape_at mid shape ≡ shape_of m.long (params_at old m.params)
-  shape_same = ap (shape_at mid) is ∙ sym (shape_of_at mid m.long m.params) ∙ ap (shape_of m.long) (params_kept old mid g m.params w.params)
+  shape_same : shape_at mid.names shape ≡ shape_of m.long (params_at old.names m.params)
+  shape_same = ap (shape_at mid.names) is ∙ sym (shape_of_at mid.names m.long m.params) ∙ ap (shape_of m.long) (params_kept old.names mid.names grows m.params w.params)
 
-  pub arguments_stop : (e : Stop) (u v : State) → Silent (read_by (reading (shape_at mid shape)) t) (Err e) u → Silent (macro_arguments (macro_at old m) s) (Err e) v
-  arguments_stop e u v h =
-      silent_then (first_argument m.long (option_map (tokens_at old) m.params.default) s) onward (map (tokens_at mid) (option_to_list first)) t (Err e) v reads
-      (silent_stops (read_by (reading (shape_of m.long (params_at old m.params))) t) (λ rest. give (map (tokens_at mid) (option_to_list first) ++ rest)) e u v
-      (subst (λ sh. Silent (read_by (reading sh) t) (Err e) u) shape_same h))
+  pub arguments_stop : (e : Stop) (new : Held) (h : Outside) → Gets (read_by (reading (shape_at mid.names shape))) (Err e) mid new g h → Gets (macro_arguments (macro_at old.names m)) (Err e) old new f h
+  arguments_stop e new h d =
+      gets_then (first_argument m.long (option_map (tokens_at old.names) m.params.default)) onward firsts (Err e) old mid new f g h reads
+      (gets_stop others_read (λ rest. give (firsts ++ rest)) e mid new g h (subst (λ sh. Gets (read_by (reading sh)) (Err e) mid new g h) shape_same d))
 
-  firsts_kept : (new : Table) → Extends mid new → (o : Option (List TokenCode)) → OptionWithin (TokensWithin (length mid)) o → map (tokens_at new) (option_to_list o) ≡ map (tokens_at mid) (option_to_list o)
+  pub arguments_out : (e : Stop) (new : Held) → e ≡ stop.NoMemory → new ≡ record mid { stop = Some stop.NoMemory } → Gets (macro_arguments (macro_at old.names m)) (Err e) old new f g
+  arguments_out e new short is' =
+      gets_then (first_argument m.long (option_map (tokens_at old.names) m.params.default)) onward firsts (Err e) old mid new f g g reads (gets_out (onward firsts) e mid new g short is' reads.holds.owns)
+
+  firsts_kept : (new : Table) → Extends mid.names new → (o : Option (List TokenCode)) → OptionWithin (TokensWithin (length mid.names)) o → map (tokens_at new) (option_to_list o) ≡ map (tokens_at mid.names) (option_to_list o)
   firsts_kept new k None within = refl
-  firsts_kept new k (Some list) within = ap (λ l. l ∷ []) (tokens_kept mid new k list within)
+  firsts_kept new k (Some list) within = ap (λ l. l ∷ []) (tokens_kept mid.names new k list within)
 
-  pub arguments_done : (new : Table) → Extends mid new → OptionWithin (TokensWithin (length mid)) first → (others args : List (List TokenCode)) (u : State)
-      → read_by (reading (shape_at mid shape)) t ≡ Done (map (tokens_at new) others) u nothing → args ≡ option_to_list first ++ others → macro_arguments (macro_at old m) s ≡ Done (map (tokens_at new) args) u nothing
-  arguments_done new k within others args u h e =
-      ap (λ a. chain a onward) reads
-      ∙ ap (λ sh. after nothing (chain (read_by (reading sh) t) (λ rest. give (map (tokens_at mid) (option_to_list first) ++ rest)))) (sym shape_same)
-      ∙ ap (λ a. after nothing (chain a (λ rest. give (map (tokens_at mid) (option_to_list first) ++ rest)))) h
-      ∙ ap (λ l. Done l u nothing)
-      (ap (λ l. l ++ map (tokens_at new) others) (sym (firsts_kept new k first within)) ∙ sym (map-append (tokens_at new) (option_to_list first) others) ∙ ap (map (tokens_at new)) (sym e))
+  pub arguments_done : (new : Held) (h : Outside) → OptionWithin (TokensWithin (length mid.names)) first → (others args : List (List TokenCode)) → Gets (read_by (reading (shape_at mid.names shape))) (Ok (map (tokens_at new.names) others)) mid new g h
+      → args ≡ option_to_list first ++ others → Gets (macro_arguments (macro_at old.names m)) (Ok (map (tokens_at new.names) args)) old new f h
+  arguments_done new h within others args d e =
+      let same =
+      ap (λ l. l ++ map (tokens_at new.names) others) (sym (firsts_kept new.names d.keeps.grows first within)) ∙ sym (map-append (tokens_at new.names) (option_to_list first) others)
+      ∙ ap (map (tokens_at new.names)) (sym e) in
+      gets_then (first_argument m.long (option_map (tokens_at old.names) m.params.default)) onward firsts (Ok (map (tokens_at new.names) args)) old mid new f g h reads
+      (gets_then others_read (λ rest. give (firsts ++ rest)) (map (tokens_at new.names) others) (Ok (map (tokens_at new.names) args)) mid new new g h h
+      (subst (λ sh. Gets (read_by (reading sh)) (Ok (map (tokens_at new.names) others)) mid new g h) shape_same d)
+      (subst (λ l. Gets (give (firsts ++ map (tokens_at new.names) others)) (Ok l) new new h h) same (gets_now (firsts ++ map (tokens_at new.names) others) new h d.keeps.sound d.stops.kept d.holds.owns)))
 
 -- and the body with them in their places
-pub called_done : (old new : Table) → Extends old new → (m : MacroCode) → MacroWithin (length old) m → (args : List (List TokenCode)) (list : List TokenCode) (s t : State)
-    → macro_arguments (macro_at old m) s ≡ Done (map (tokens_at new) args) t nothing → list ≡ fills args m.body → called (macro_at old m) s ≡ Done (tokens_at new list) t nothing
-called_done old new g m w args list s t h e =
-    ap (λ a. chain a (λ args. give (filled args (tokens_at old m.body)))) h
-    ∙ ap (λ b. Done b t nothing) (ap (filled (map (tokens_at new) args)) (sym (body_kept old new g (slots_in m.params.pieces) m.body w.body)) ∙ sym (fills_at new args m.body) ∙ ap (tokens_at new) (sym e))
+pub called_done : (old new : Held) → Extends old.names new.names → (m : MacroCode) → MacroWithin (length old.names) m → (args : List (List TokenCode)) (list : List TokenCode) (f g : Outside)
+    → Gets (macro_arguments (macro_at old.names m)) (Ok (map (tokens_at new.names) args)) old new f g → list ≡ fills args m.body → Gets (called (macro_at old.names m)) (Ok (tokens_at new.names list)) old new f g
+called_done old new grows m w args list f g d e =
+    let same = ap (filled (map (tokens_at new.names) args)) (sym (body_kept old.names new.names grows (slots_in m.params.pieces) m.body w.body)) ∙ sym (fills_at new.names args m.body) ∙ ap (tokens_at new.names) (sym e) in
+    gets_then (macro_arguments (macro_at old.names m)) (λ args. give (filled args (tokens_at old.names m.body))) (map (tokens_at new.names) args) (Ok (tokens_at new.names list)) old new new f g g d
+    (subst (λ l. Gets (give (filled (map (tokens_at new.names) args) (tokens_at old.names m.body))) (Ok l) new new g g) same
+    (gets_now (filled (map (tokens_at new.names) args) (tokens_at old.names m.body)) new g d.keeps.sound d.stops.kept d.holds.owns))
+
+pub called_out : (old mid new : Held) (m : MacroCode) (args : List (List Token)) (e : Stop) (f g : Outside) → Gets (macro_arguments (macro_at old.names m)) (Ok args) old mid f g → e ≡ stop.NoMemory → new ≡ record mid { stop = Some stop.NoMemory }
+    → Gets (called (macro_at old.names m)) (Err e) old new f g
+called_out old mid new m args e f g d short is =
+    gets_then (macro_arguments (macro_at old.names m)) (λ args. give (filled args (tokens_at old.names m.body))) args (Err e) old mid new f g g d (gets_out (give (filled args (tokens_at old.names m.body))) e mid new g short is d.holds.owns)
+
+pub called_stop : (old new : Held) (m : MacroCode) (e : Stop) (f g : Outside) → Gets (macro_arguments (macro_at old.names m)) (Err e) old new f g → Gets (called (macro_at old.names m)) (Err e) old new f g
+called_stop old new m e f g d = gets_stop (macro_arguments (macro_at old.names m)) (λ args. give (filled args (tokens_at old.names m.body))) e old new f g d
 
 pub called_within : (old new : Table) → Extends old new → (m : MacroCode) → MacroWithin (length old) m → (args : List (List TokenCode)) (list : List TokenCode) → All (TokensWithin (length new)) args → list ≡ fills args m.body
     → TokensWithin (length new) list

@@ -5,9 +5,9 @@ use Rattle.texml_scope.specs.Texts.{MacroText}
 use Rattle.texml_match.specs.Reading.{Reader}
 use Rattle.texml_match.specs.Shape.{shape_of}
 use Rattle.texml_match.specs.Arguments.{argument, reading}
-use Rattle.texml_expand.specs.Rest.{Item, Tok, Frozen, back_as, size}
+use Rattle.texml_input.specs.Rest.{Item, Tok, Frozen, back_as, size}
 use Rattle.texml_expand.specs.declared.feeding.Verdict.{Verdict}
-use Rattle.texml_expand.specs.Next.{Taken}
+use Rattle.texml_input.specs.Next.{Taken}
 use Rattle.texml_expand.specs.State.{State, room, Answer, Reading, chain, IsDecided, give}
 use Rattle.texml_expand.specs.Take.{take, back}
 use Rattle.texml_expand.specs.Arguments.{decided_by, read_by, is_space, past_space, past_spaces, behind_spaces, is_sign, no_sign, sign_or_back, sign, open_bracket, close_bracket, behind_bracket, optional, first_argument, macro_arguments, filled, called}

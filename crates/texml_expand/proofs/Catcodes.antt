@@ -5,7 +5,7 @@ use Rattle.texml_scope.specs.declared.values.KeyOf.TheVariants.{Cat, EndLineChar
 use Rattle.texml_scope.specs.World.{World as WorldCode}
 use Rattle.texml_scope.specs.Numbers.{world_at}
 use Rattle.texml_scope.proofs.Texts.{number_says}
-use Rattle.texml_expand.specs.Codes.{category_of, cats_of, character_of, end_of}
+use Rattle.texml_input.specs.Codes.{category_of, cats_of, character_of, end_of}
 
 pub cats_same : (texts : Table) (w : WorldCode) → cats_of (world_at texts w) ≡ cats_of w
 unfolding world_at

@@ -1,8 +1,8 @@
 -- Readings that decide.
 use Rattle.std.proofs.Common.{◌≡◌, refl}
-use Rattle.texml_expand.specs.Next.{Given, Got, AtEnd, Invalid, next}
+use Rattle.texml_input.specs.Next.{Given, Got, AtEnd, Invalid, NotUtf8, next}
 use Rattle.texml_expand.specs.State.{State, Gains, Answer, Done, Ended, Unfinished, Reading, nothing, after, chain, IsDecided}
-use Rattle.texml_expand.specs.Codes.{cats_of, end_of}
+use Rattle.texml_input.specs.Codes.{cats_of, end_of}
 use Rattle.texml_expand.specs.Take.{take_given, take}
 use Rattle.texml_expand.proofs.Leading.{Leads}
 
@@ -34,9 +34,10 @@ any (Ended e gains) = tt
 any (Unfinished gains) = tt
 
 given_decided : (g : Given) (s : State) → IsDecided (take_given g s)
-given_decided (Got t rest place) s = tt
-given_decided (AtEnd place) s = tt
-given_decided (Invalid c place) s = tt
+given_decided (Got t rest place bytes) s = tt
+given_decided (AtEnd place bytes) s = tt
+given_decided (Invalid c place bytes) s = tt
+given_decided (NotUtf8 place bytes) s = tt
 
 pub take_decided : (s : State) → IsDecided (take s)
 take_decided s = given_decided (next (cats_of s.world) (end_of s.world) s.rest s.place) s

@@ -1,5 +1,5 @@
 -- Tokens that are fed until they decide, as the readings by the least number of next tokens see them.
-use Rattle.std.proofs.Common.{◌≡◌, ◌+◌, ◌≤◌, ◌<◌, ℕ, suc, true, false, List, [], ◌∷◌, ◌++◌, length, length-append, append_assoc, take, take_all, None, Result, Ok, Err, refl, sym, ap, ◌∙◌, subst, arith, inl, inr}
+use Rattle.std.proofs.Common.{◌≡◌, ◌≤◌, ◌<◌, ℕ, suc, true, false, List, [], ◌∷◌, ◌++◌, length, length-append, append_assoc, take, take_all, IsTrue, None, Some, Result, Ok, Err, refl, sym, ap, ◌∙◌, subst, arith, inl, inr}
 use Rattle.std.proofs.lemmas.Bool.{cases_lt}
 use Rattle.std.proofs.lemmas.List.{map-append, length-map, take-append-le}
 use Rattle.std.proofs.lemmas.List.Elements.{All-nil, All-push, All-take}
@@ -13,16 +13,17 @@ use Rattle.texml_expand.specs.declared.stop.Stop.{Stop}
 use Rattle.texml_expand.specs.declared.stop.Stop.TheVariants as stop
 use Rattle.texml_expand.specs.declared.feeding.Verdict.{Verdict}
 use Rattle.texml_expand.specs.declared.feeding.Verdict.TheVariants.{TooShort, Yields, Refuses}
-use Rattle.texml_expand.specs.State.{State, End, Tex, Limit, room, nothing, Answer, Done, Ended, after, chain, give}
-use Rattle.texml_expand.specs.Held.{Held, state_of, Sound, Kept, Progress, ok_at}
-use Rattle.texml_expand.specs.Contract.{Silent, IsFaultAt}
+use Rattle.texml_expand.specs.State.{State, End, Tex, Limit, nothing, Answer, Done, Ended, after, chain, give}
+use Rattle.texml_expand.specs.Held.{Held, place_of, state_of, Sound, Kept, Owns, Shrinks, ok_at}
+use Rattle.texml_expand.specs.Contract.{Quiet, Outside, IsFaultAt}
+use Rattle.texml_expand.specs.Doing.{Gets, Runs}
 use Rattle.texml_expand.specs.Least.{inner_token, next_tokens, decides, decided, is_enough, by_least}
-use Rattle.texml_expand.specs.Feeding.{Judge, IsFed, Short, Seen, Settled, CutShort, Refused, Cut, Feeds}
+use Rattle.texml_expand.specs.Feeding.{Judge, IsFed, Short, Seen, Settled, CutShort, Refused, Cut, Feeds, FeedsTold, FedBy}
 use Rattle.texml_expand.proofs.Deciding.{after_nothing}
 use Rattle.texml_expand.proofs.Leading.{leads_at}
-use Rattle.texml_expand.proofs.Progress.{progress_itself, progress_then}
 use Rattle.texml_expand.proofs.Fronts.{kept_then, kept_itself}
-use Rattle.texml_expand.proofs.Least.{Takes, Took, takes_room, inner_takes, next_took, one_more, by_least_at, by_least_ends}
+use Rattle.texml_expand.proofs.Running.{told_on, shrinks_none, shrinks_then, runs_then, runs_as, runs_now, runs_stop, runs_fault, runs_out, gets_runs}
+use Rattle.texml_expand.proofs.Least.{Took, takes_room, next_took, one_more, by_least_at, by_least_ends}
 
 -- one more token behind the first k
 pub tokens_more_one : (old now new : State) (list : List Token) (t : Token) (k : ℕ) → next_tokens k old ≡ Done list now nothing → inner_token now ≡ Done t new nothing → next_tokens (suc k) old ≡ Done (list ++ t ∷ []) new nothing
@@ -31,34 +32,39 @@ tokens_more_one old now new list t k e h = ap (λ a. chain a one_more) e ∙ aft
 pub tokens_end : (old now : State) (list : List Token) (end : End) (k : ℕ) → next_tokens k old ≡ Done list now nothing → inner_token now ≡ Ended end nothing → next_tokens (suc k) old ≡ Ended end nothing
 tokens_end old now list end k e h = ap (λ a. chain a one_more) e ∙ after_nothing (one_more list now) ∙ ap (λ a. chain a (λ x. give (list ++ x ∷ []))) h
 
--- each token leaves less to be read
-pub inner_smaller : (now new : State) (t : Token) → inner_token now ≡ Done t new nothing → room new + 1 ≤ room now
-inner_smaller now new t e = let l = leads_at (λ x s. Takes 1 now s) (inner_token now) t new nothing e (inner_takes now) in l.lower.size l.begun
-
 pub push_length : {A : Type 0} (list : List A) (t : A) → length (list ++ t ∷ []) ≡ suc (length list)
 push_length list t = omega (arith, length-append list (t ∷ []))
 
+-- these tokens of the code were taken, and each first part of them
+pub record FedTokens (s : State) (texts : Table) (seen : List TokenCode) (t : State) : Type 0 where
+  pub tokens : next_tokens (length seen) s ≡ Done (tokens_at texts seen) t nothing
+  pub fronts : (j : ℕ) → j < length seen → (m : State) × (next_tokens j s ≡ Done (tokens_at texts (take j seen)) m nothing)
+
 -- an engine that feeds: these tokens were fed, and no first part of them decides
-pub record Feeding {V : Type 0} (first : Judge V) (old : Held) (judge : Judge V) (now : Held) : Type 0 where
+pub record Feeding {V : Type 0} (first : Judge V) (old : Held) (f : Outside) (judge : Judge V) (now : Held) (g : Outside) : Type 0 where
   pub running : now.stop ≡ None
+  pub sound : Sound now
+  pub owns : Owns g.shelf now
   pub kept : Kept old now
-  pub progress : Progress old now
+  pub runs : Runs {A = Unit {0}} (Ok tt) old now f g
   pub seen : List TokenCode
   pub within : TokensWithin (length now.names) seen
-  pub tokens : next_tokens (length seen) (state_of old) ≡ Done (tokens_at now.names seen) (state_of now) nothing
-  pub fronts : (j : ℕ) → j < length seen → (m : State) × (next_tokens j (state_of old) ≡ Done (tokens_at now.names (take j seen)) m nothing)
+  pub lower : Shrinks (length seen) f.shelf old g.shelf now
+  pub fed : IsTrue f.shelf.tells → FedTokens (state_of f.shelf old) now.names seen (state_of g.shelf now)
   pub short : (texts : Table) → Extends now.names texts → (j : ℕ) → j ≤ length seen → first texts (take j seen) ≡ TooShort
   pub on : (texts : Table) → Extends now.names texts → (more : List TokenCode) → judge texts more ≡ first texts (seen ++ more)
 
-pub feeding_none : {V : Type 0} (judge : Judge V) (h : Held) → h.stop ≡ None → Sound h → ((texts : Table) → judge texts [] ≡ TooShort) → Feeding judge h judge h
-feeding_none judge h running sound short = record {
+pub feeding_none : {V : Type 0} (judge : Judge V) (h : Held) (f : Outside) → h.stop ≡ None → Sound h → Owns f.shelf h → ((texts : Table) → judge texts [] ≡ TooShort) → Feeding judge h f judge h f
+feeding_none judge h f running sound owns short = record {
   running = running;
+  sound = sound;
+  owns = owns;
   kept = kept_itself h sound;
-  progress = progress_itself h;
+  runs = runs_now tt h f sound running owns;
   seen = [];
   within = All-nil (TokenWithin (length h.names));
-  tokens = refl;
-  fronts = λ j lt. absurd (omega (arith, lt));
+  lower = shrinks_none f.shelf h;
+  fed = λ told. record { tokens = refl; fronts = λ j lt. absurd (omega (arith, lt)) };
   short = λ texts g j le. ap (judge texts) (take_all j [] (omega arith)) ∙ short texts;
   on = λ texts g more. refl;
 }
@@ -68,113 +74,154 @@ pub fed_by : {V : Type 0} (judge judge' : Judge V) (t : TokenCode) (verdict : Ve
     → (texts : Table) → Extends given texts → IsFed judge t verdict judge' texts
 fed_by judge judge' t verdict names given e fed texts x = fed texts (subst (λ n. Extends n texts) (sym e) x)
 
-module _ {V : Type 0} (first judge judge' : Judge V) (old now new : Held) (t : TokenCode) (verdict : Verdict V) (f : Feeding first old judge now)
-    (takes : inner_token (state_of now) ≡ Done (token_at new.names t) (state_of new) nothing) (keeps : Kept now new) (given : TokenWithin (length new.names) t)
-    (fed : (texts : Table) → Extends new.names texts → IsFed judge t verdict judge' texts) where
-  abbrev list : List TokenCode
-  list = f.seen ++ t ∷ []
+-- one more token was taken
+module _ (s now new : State) (names texts : Table) (g : Extends names texts) (seen : List TokenCode) (t : TokenCode) (within : TokensWithin (length names) seen) (k : FedTokens s names seen now) (takes : inner_token now ≡ Done (token_at texts t) new nothing) where
+  same : (j : ℕ) → tokens_at texts (take j seen) ≡ tokens_at names (take j seen)
+  same j = tokens_kept names texts g (take j seen) (All-take (TokenWithin (length names)) j seen within)
 
-  within_more : TokensWithin (length new.names) list
-  within_more = All-push (TokenWithin (length new.names)) f.seen t (tokens_more (length now.names) (length new.names) keeps.grows.longer f.seen f.within) given
+  same_seen : tokens_at texts seen ≡ tokens_at names seen
+  same_seen = tokens_kept names texts g seen within
 
-  same : (j : ℕ) → tokens_at new.names (take j f.seen) ≡ tokens_at now.names (take j f.seen)
-  same j = tokens_kept now.names new.names keeps.grows (take j f.seen) (All-take (TokenWithin (length now.names)) j f.seen f.within)
+  pushed : tokens_at names seen ++ token_at texts t ∷ [] ≡ tokens_at texts (seen ++ t ∷ [])
+  pushed = ap (λ l. l ++ token_at texts t ∷ []) (sym same_seen) ∙ sym (map-append (token_at texts) seen (t ∷ []))
 
-  same_seen : tokens_at new.names f.seen ≡ tokens_at now.names f.seen
-  same_seen = tokens_kept now.names new.names keeps.grows f.seen f.within
-
-  pushed : tokens_at now.names f.seen ++ token_at new.names t ∷ [] ≡ tokens_at new.names list
-  pushed = ap (λ l. l ++ token_at new.names t ∷ []) (sym same_seen) ∙ sym (map-append (token_at new.names) f.seen (t ∷ []))
-
-  tokens_all : next_tokens (length list) (state_of old) ≡ Done (tokens_at new.names list) (state_of new) nothing
-  tokens_all =
-      ap (λ k. next_tokens k (state_of old)) (push_length f.seen t)
-      ∙ tokens_more_one (state_of old) (state_of now) (state_of new) (tokens_at now.names f.seen) (token_at new.names t) (length f.seen) f.tokens takes
-      ∙ ap (λ l. Done l (state_of new) nothing) pushed
-
-  fronts_all : (j : ℕ) → j < length list → (m : State) × (next_tokens j (state_of old) ≡ Done (tokens_at new.names (take j list)) m nothing)
-  fronts_all j lt = elim (cases_lt j (length f.seen)) [
-    | inl less ↦
-        let before = f.fronts j less in
-        (before.0, before.1 ∙ ap (λ l. Done l before.0 nothing) (sym (same j)) ∙ ap (λ l. Done (tokens_at new.names l) before.0 nothing) (sym (take-append-le j f.seen (t ∷ []) (omega arith))))
-    | inr le ↦
-        let e : j ≡ length f.seen = omega (arith, lt, le, push_length f.seen t) in (
-          state_of now,
-          ap (λ k. next_tokens k (state_of old)) e ∙ f.tokens ∙ ap (λ l. Done l (state_of now) nothing) (sym same_seen)
-              ∙ ap (λ l. Done (tokens_at new.names l) (state_of now) nothing) (sym (ap (λ k. take k list) e ∙ take-append_seam f.seen (t ∷ []))),
-        )
-  ]
-
-  whole : (texts : Table) → Extends new.names texts → first texts list ≡ verdict
-  whole texts g = sym (f.on texts (extends_trans now.names new.names texts keeps.grows g) (t ∷ [])) ∙ (fed texts g).is
-
-  short_before : (texts : Table) → Extends new.names texts → (j : ℕ) → j ≤ length f.seen → first texts (take j list) ≡ TooShort
-  short_before texts g j le = ap (first texts) (take-append-le j f.seen (t ∷ []) le) ∙ f.short texts (extends_trans now.names new.names texts keeps.grows g) j le
-
-  -- the token decides
-  pub feeding_settled : Settled first (state_of old) new.names (state_of new) verdict
-  feeding_settled = record {
-    list = list;
-    seen = record {
-      numbered = keeps.sound.numbered;
-      within = within_more;
-      tokens = tokens_all;
-      before = λ j lt.
-          let front = fronts_all j lt in
-          record { now = front.0; tokens = front.1; is = short_before new.names (extends_refl new.names) j (omega (arith, lt, push_length f.seen t)) };
-    };
-    is = whole new.names (extends_refl new.names);
+  fed_more : FedTokens s texts (seen ++ t ∷ []) new
+  fed_more = record {
+    tokens =
+        ap (λ k. next_tokens k s) (push_length seen t) ∙ tokens_more_one s now new (tokens_at names seen) (token_at texts t) (length seen) k.tokens takes
+        ∙ ap (λ l. Done l new nothing) pushed;
+    fronts = λ j lt. elim (cases_lt j (length seen)) [
+      | inl less ↦
+          let before = k.fronts j less in
+          (before.0, before.1 ∙ ap (λ l. Done l before.0 nothing) (sym (same j)) ∙ ap (λ l. Done (tokens_at texts l) before.0 nothing) (sym (take-append-le j seen (t ∷ []) (omega arith))))
+      | inr le ↦
+          let e : j ≡ length seen = omega (arith, lt, le, push_length seen t) in (
+            now,
+            ap (λ k. next_tokens k s) e ∙ k.tokens ∙ ap (λ l. Done l now nothing) (sym same_seen) ∙ ap (λ l. Done (tokens_at texts l) now nothing) (sym (ap (λ k. take k (seen ++ t ∷ [])) e ∙ take-append_seam seen (t ∷ []))),
+          )
+    ];
   }
 
+module _ {V : Type 0} (first judge judge' : Judge V) (old now new : Held) (f g h : Outside) (t : TokenCode) (verdict : Verdict V) (i : Feeding first old f judge now g) (d : Gets inner_token (Ok (token_at new.names t)) now new g h)
+    (low : Shrinks 1 g.shelf now h.shelf new) (given : TokenWithin (length new.names) t) (fed : (texts : Table) → Extends new.names texts → IsFed judge t verdict judge' texts) where
+  abbrev list : List TokenCode
+  list = i.seen ++ t ∷ []
+
+  within_more : TokensWithin (length new.names) list
+  within_more = All-push (TokenWithin (length new.names)) i.seen t (tokens_more (length now.names) (length new.names) d.keeps.grows.longer i.seen i.within) given
+
+  behind : Runs {A = Unit {0}} (Ok tt) old new f h
+  behind = runs_then tt (Ok tt) old now new f g h i.runs (runs_as (token_at new.names t) tt now new g h (gets_runs inner_token (Ok (token_at new.names t)) now new g h d))
+
+  less : Shrinks (length list) f.shelf old h.shelf new
+  less = shrinks_then (length i.seen) 1 (length list) f.shelf g.shelf h.shelf old now new i.lower low (omega (arith, push_length i.seen t))
+
+  fed_all : IsTrue f.shelf.tells → FedTokens (state_of f.shelf old) new.names list (state_of h.shelf new)
+  fed_all told =
+      fed_more (state_of f.shelf old) (state_of g.shelf now) (state_of h.shelf new) now.names new.names d.keeps.grows i.seen t i.within (i.fed told) (d.reads (told_on f.shelf g.shelf old now i.runs.holds told))
+
+  whole : (texts : Table) → Extends new.names texts → first texts list ≡ verdict
+  whole texts g = sym (i.on texts (extends_trans now.names new.names texts d.keeps.grows g) (t ∷ [])) ∙ (fed texts g).is
+
+  short_before : (texts : Table) → Extends new.names texts → (j : ℕ) → j ≤ length i.seen → first texts (take j list) ≡ TooShort
+  short_before texts g j le = ap (first texts) (take-append-le j i.seen (t ∷ []) le) ∙ i.short texts (extends_trans now.names new.names texts d.keeps.grows g) j le
+
+  -- the token decides
+  settled_now : IsTrue f.shelf.tells → Settled first (state_of f.shelf old) new.names (state_of h.shelf new) verdict
+  settled_now told =
+      let k = fed_all told in
+      record {
+        list = list;
+        seen = record {
+          numbered = d.keeps.sound.numbered;
+          within = within_more;
+          tokens = k.tokens;
+          before = λ j lt.
+              let front = k.fronts j lt in
+              record { now = front.0; tokens = front.1; is = short_before new.names (extends_refl new.names) j (omega (arith, lt, push_length i.seen t)) };
+        };
+        is = whole new.names (extends_refl new.names);
+      }
+
+  pub feeding_settled : (v : V) → verdict ≡ Yields v → FeedsTold first (state_of f.shelf old) f.shelf (Ok v) new.names (state_of h.shelf new)
+  feeding_settled v e told = subst (Settled first (state_of f.shelf old) new.names (state_of h.shelf new)) e (settled_now told)
+
+  pub feeding_fed : (v : V) → verdict ≡ Yields v → FedBy first v f.shelf old h.shelf new
+  feeding_fed v e = record { list = list; within = within_more; is = whole new.names (extends_refl new.names) ∙ e; shrinks = less }
+
+  pub feeding_runs : (v : V) → Runs (Ok v) old new f h
+  feeding_runs v = runs_as tt v old new f h behind
+
   -- it doesn't
-  pub feeding_more : new.stop ≡ None → Progress now new → verdict ≡ TooShort → Feeding first old judge' new
-  feeding_more running on short = record {
-    running = running;
-    kept = kept_then old now new f.kept keeps;
-    progress = progress_then old now new f.progress on;
+  pub feeding_more : verdict ≡ TooShort → Feeding first old f judge' new h
+  feeding_more short = record {
+    running = d.stops.kept;
+    sound = d.keeps.sound;
+    owns = d.holds.owns;
+    kept = kept_then old now new i.kept d.keeps;
+    runs = behind;
     seen = list;
     within = within_more;
-    tokens = tokens_all;
-    fronts = fronts_all;
-    short = λ texts g j le. elim (cases_lt (length f.seen) j) [
-      | inl more ↦ ap (first texts) (take_all j list (omega (arith, more, push_length f.seen t))) ∙ whole texts g ∙ short
+    lower = less;
+    fed = fed_all;
+    short = λ texts g j le. elim (cases_lt (length i.seen) j) [
+      | inl more ↦ ap (first texts) (take_all j list (omega (arith, more, push_length i.seen t))) ∙ whole texts g ∙ short
       | inr less ↦ short_before texts g j less
     ];
     on = λ texts g more.
-        (fed texts g).on short more ∙ f.on texts (extends_trans now.names new.names texts keeps.grows g) (t ∷ more) ∙ ap (first texts) (sym (append_assoc f.seen (t ∷ []) more));
+        (fed texts g).on short more ∙ i.on texts (extends_trans now.names new.names texts d.keeps.grows g) (t ∷ more) ∙ ap (first texts) (sym (append_assoc i.seen (t ∷ []) more));
   }
 
   -- a fault is made of a refusal
-  pub feeding_refuses : (code : ℕ) (e : Stop) (after : Held) → verdict ≡ Refuses code → IsFaultAt code [] new.place e → Feeds first (state_of old) (Err e) after
-  feeding_refuses code (stop.Tex x) after v h = Refused new.names (state_of new) code (subst (Settled first (state_of old) new.names (state_of new)) v feeding_settled) h
-  feeding_refuses code (stop.Limit n) after v h = absurd h
-  feeding_refuses code stop.ReadFailed after v h = absurd h
-  feeding_refuses code stop.TellFailed after v h = absurd h
-  feeding_refuses code stop.NoMemory after v h = tt
+  pub feeding_refuses : (code : ℕ) (e : Stop) (texts : Table) (last : State) → verdict ≡ Refuses code → IsFaultAt code [] (place_of new) e → FeedsTold first (state_of f.shelf old) f.shelf (Err e) texts last
+  feeding_refuses code (stop.Tex x) texts last v bad told =
+      Refused new.names (state_of h.shelf new) code (subst (Settled first (state_of f.shelf old) new.names (state_of h.shelf new)) v (settled_now told)) bad
+  feeding_refuses code (stop.Limit n) texts last v bad told = absurd bad
+  feeding_refuses code stop.ReadFailed texts last v bad told = absurd bad
+  feeding_refuses code stop.TellFailed texts last v bad told = absurd bad
+  feeding_refuses code stop.NoMemory texts last v bad told = tt
+
+  pub refuses_runs : (code : ℕ) (e : Stop) (last : Held) → IsFaultAt code [] (place_of new) e → last ≡ record new { stop = Some e } → Runs {A = V} (Err e) old last f h
+  refuses_runs code e last bad is = runs_then tt (Err e) old new last f h h behind (runs_fault code [] e new last h bad is d.holds.owns)
+
+-- memory is refused where a token is fed
+pub out_runs : {V A : Type 0} (first judge : Judge V) (old now mid new : Held) (f g h : Outside) (t : Token) (e : Stop) → Feeding first old f judge now g → Gets inner_token (Ok t) now mid g h → e ≡ stop.NoMemory → new ≡ record mid { stop = Some stop.NoMemory }
+    → Runs {A = A} (Err e) old new f h
+out_runs first judge old now mid new f g h t e i d short is =
+    runs_then tt (Err e) old now new f g h i.runs (runs_then t (Err e) now mid new g h h (gets_runs inner_token (Ok t) now mid g h d) (runs_out e mid new h short is d.holds.owns))
 
 -- no next token can be taken
-feeding_cut : {V : Type 0} (first judge : Judge V) (old now : Held) (end : End) → Feeding first old judge now → inner_token (state_of now) ≡ Ended end nothing → CutShort first (state_of old) end
-feeding_cut first judge old now end f h = record {
-  texts = now.names;
-  list = f.seen;
-  now = state_of now;
-  seen = record {
-    numbered = f.kept.sound.numbered;
-    within = f.within;
-    tokens = f.tokens;
-    before = λ j lt. let front = f.fronts j lt in record { now = front.0; tokens = front.1; is = f.short now.names (extends_refl now.names) j (omega (arith, lt)) };
-  };
-  is = ap (first now.names) (sym (take_all (length f.seen) f.seen (omega arith))) ∙ f.short now.names (extends_refl now.names) (length f.seen) (omega arith);
-  cut = h;
-}
+feeding_cut : {V : Type 0} (first judge : Judge V) (old now : Held) (f g : Outside) (end : End) → Feeding first old f judge now g → IsTrue f.shelf.tells → inner_token (state_of g.shelf now) ≡ Ended end nothing → CutShort first (state_of f.shelf old) end
+feeding_cut first judge old now f g end i told h =
+    let k = i.fed told in
+    record {
+      texts = now.names;
+      list = i.seen;
+      now = state_of g.shelf now;
+      seen = record {
+        numbered = i.kept.sound.numbered;
+        within = i.within;
+        tokens = k.tokens;
+        before = λ j lt. let front = k.fronts j lt in record { now = front.0; tokens = front.1; is = i.short now.names (extends_refl now.names) j (omega (arith, lt)) };
+      };
+      is = ap (first now.names) (sym (take_all (length i.seen) i.seen (omega arith))) ∙ i.short now.names (extends_refl now.names) (length i.seen) (omega arith);
+      cut = h;
+    }
 
-pub feeding_stops : {V : Type 0} (first judge : Judge V) (old now : Held) (e : Stop) (mid : State) (after : Held) → Feeding first old judge now → Silent (inner_token (state_of now)) (Err e) mid
-    → Feeds first (state_of old) (Err e) after
-feeding_stops first judge old now (stop.Tex x) mid after f h = Cut (feeding_cut first judge old now (Tex x) f h)
-feeding_stops first judge old now (stop.Limit n) mid after f h = feeding_cut first judge old now (Limit n) f h
-feeding_stops first judge old now stop.ReadFailed mid after f h = absurd h
-feeding_stops first judge old now stop.TellFailed mid after f h = absurd h
-feeding_stops first judge old now stop.NoMemory mid after f h = tt
+feeds_cut : {V : Type 0} (first judge : Judge V) (old now : Held) (f g : Outside) (e : Stop) (mid : State) (texts : Table) (last : State) → Feeding first old f judge now g → IsTrue f.shelf.tells → Quiet (inner_token (state_of g.shelf now)) (Err e) mid
+    → Feeds first (state_of f.shelf old) (Err e) texts last
+feeds_cut first judge old now f g (stop.Tex x) mid texts last i told h = Cut (feeding_cut first judge old now f g (Tex x) i told h)
+feeds_cut first judge old now f g (stop.Limit n) mid texts last i told h = feeding_cut first judge old now f g (Limit n) i told h
+feeds_cut first judge old now f g stop.ReadFailed mid texts last i told h = tt
+feeds_cut first judge old now f g stop.TellFailed mid texts last i told h = absurd h
+feeds_cut first judge old now f g stop.NoMemory mid texts last i told h = tt
+
+module _ {V : Type 0} (first judge : Judge V) (old now new : Held) (f g h : Outside) (e : Stop) (i : Feeding first old f judge now g) (d : Gets inner_token (Err e) now new g h) where
+  pub feeding_stops : (texts : Table) (last : State) → FeedsTold first (state_of f.shelf old) f.shelf (Err e) texts last
+  feeding_stops texts last told = feeds_cut first judge old now f g e (state_of h.shelf new) texts last i told (d.reads (told_on f.shelf g.shelf old now i.runs.holds told))
+
+  pub stops_runs : Runs {A = V} (Err e) old new f h
+  stops_runs = runs_then tt (Err e) old now new f g h i.runs (runs_stop e now new g h (gets_runs inner_token (Err e) now new g h d))
 
 -- what a verdict of the code stands for
 abbrev pub verdict_at : {A B : Type 0} → (A → B) → Verdict A → Verdict B
@@ -225,11 +272,11 @@ module _ {A V : Type 0} (decide : List Token → Verdict A) (value : Table → V
       ])
 
   -- what feeding answers is what the least number of next tokens decides
-  pub feeds_silent : (r : Result V Stop) (new : Held) → Feeds judge old r new → Silent (by_least decide old) (ok_at (value new.names) r) (state_of new)
-  feeds_silent (Ok v) new h = settled new.names (state_of new) (Yields v) h refl
-  feeds_silent (Err (stop.Tex x)) new (Refused texts now code s e) = settled texts now (Refuses code) s refl ∙ ap (λ y. Ended (Tex y) nothing) (sym e)
-  feeds_silent (Err (stop.Tex x)) new (Cut c) = cut (Tex x) c
-  feeds_silent (Err (stop.Limit n)) new c = cut (Limit n) c
-  feeds_silent (Err stop.ReadFailed) new h = absurd h
-  feeds_silent (Err stop.TellFailed) new h = absurd h
-  feeds_silent (Err stop.NoMemory) new h = tt
+  pub feeds_quiet : (r : Result V Stop) (texts : Table) (now : State) → Feeds judge old r texts now → Quiet (by_least decide old) (ok_at (value texts) r) now
+  feeds_quiet (Ok v) texts now h = settled texts now (Yields v) h refl
+  feeds_quiet (Err (stop.Tex x)) texts now (Refused known at code s e) = settled known at (Refuses code) s refl ∙ ap (λ y. Ended (Tex y) nothing) (sym e)
+  feeds_quiet (Err (stop.Tex x)) texts now (Cut c) = cut (Tex x) c
+  feeds_quiet (Err (stop.Limit n)) texts now c = cut (Limit n) c
+  feeds_quiet (Err stop.ReadFailed) texts now h = tt
+  feeds_quiet (Err stop.TellFailed) texts now h = absurd h
+  feeds_quiet (Err stop.NoMemory) texts now h = tt

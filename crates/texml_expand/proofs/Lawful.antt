@@ -2,8 +2,9 @@
 use Rattle.std.proofs.Common.{◌≡◌, ◌+◌, ◌<◌, ◌≤◌, ℕ, Bool, true, false, if◌then◌else◌, List, [], length, arith}
 use Rattle.texml_token.specs.Token.{Token}
 use Rattle.texml_scan.specs.Grammar.{Remainder}
-use Rattle.texml_expand.specs.State.{State, room, Answer, Reading, chain, IsDecided, give, fail}
-use Rattle.texml_expand.specs.Calls.{Expandable, Seen, Calls}
+use Rattle.texml_expand.specs.State.{State, room, Answer, Reading, chain, IsDecided, give, fail, change}
+use Rattle.texml_expand.specs.declared.gathering.Gathering.TheVariants.{Group}
+use Rattle.texml_expand.specs.Calls.{Expandable, Gathering, Seen, Calls}
 use Rattle.texml_expand.specs.Contract.{Lower, Begins}
 use Rattle.texml_expand.proofs.Leading.{Leads, leads_chain, leads_at, leads_weaker, count, lower_none, lower_then, lower_less, begins_lower}
 use Rattle.texml_expand.proofs.Readings.{Grows, grows_refl, chain_grows, Mono, Settles, settles_now, settles_chain}
@@ -16,6 +17,8 @@ pub record GrowsCalls (c c' : Calls) : Type 1 where
   pub fetch : (s : State) → Grows (c.fetch s) (c'.fetch s)
   pub expand : (t : Token) (e : Expandable) (s : State) → Grows (c.expand t e s) (c'.expand t e s)
   pub scan : {V : Type 0} (g : Remainder V) (seen : List Seen) (s : State) → Grows (c.scan g seen s) (c'.scan g seen s)
+  pub gather : (g : Gathering) (seen : List Token) (s : State) → Grows (c.gather g seen s) (c'.gather g seen s)
+  pub copy : (t : Token) (s : State) → Grows (c.copy t s) (c'.copy t s)
 
 -- t comes after s, and where no expansion began at most k tokens more are left to read: those that were held before
 pub record Returns (k : ℕ) (s t : State) : Type 0 where
@@ -30,6 +33,8 @@ pub record CallsFall (c : Calls) : Type 1 where
   pub fetch : (s : State) → Leads (λ o t. Lower (count o) s t) (c.fetch s)
   pub expand : (t : Token) (e : Expandable) (s : State) → Leads (λ v u. Begins s u) (c.expand t e s)
   pub scan : {V : Type 0} (g : Remainder V) (seen : List Seen) (s : State) → Leads (λ v t. Returns (length seen) s t) (c.scan g seen s)
+  pub gather : (g : Gathering) (seen : List Token) (s : State) → Leads (λ v t. Lower 0 s t) (c.gather g seen s)
+  pub copy : (t : Token) (s : State) → Leads (λ v u. Begins s u) (c.copy t s)
 
 -- calls by depth
 pub record Levels : Type 1 where
@@ -42,6 +47,8 @@ pub record AllSettle (l : Levels) (s : State) : Type 1 where
   pub fetch : Settles (λ n. (l.at n).fetch s)
   pub expand : (t : Token) (e : Expandable) → Settles (λ n. (l.at n).expand t e s)
   pub scan : {V : Type 0} (g : Remainder V) (seen : List Seen) → Settles (λ n. (l.at n).scan g seen s)
+  pub gather : (g : Gathering) (seen : List Token) → Settles (λ n. (l.at n).gather g seen s)
+  pub copy : (t : Token) → Settles (λ n. (l.at n).copy t s)
 
 pub record Lawful {A : Type 0} (r : By A) : Type 1 where
   pub grows : (c c' : Calls) → GrowsCalls c c' → (s : State) → Grows (r c s) (r c' s)
@@ -77,6 +84,10 @@ lawful_by look r h = record {
   falls = λ c f s. (h (look s)).falls c f s;
   settles = λ l s k. (h (look s)).settles l s k;
 }
+
+-- the state changes, and no more is left to be read
+pub lawful_change : (f : State → State) → ((s : State) → Lower 0 s (f s)) → Lawful (λ c. change f)
+lawful_change f falls = lawful_silent (change f) (λ s. tt) falls
 
 -- One reading after the other
 
@@ -123,4 +134,21 @@ lawful_scan g = record {
   grows = λ c c' k s. k.scan g [] s;
   falls = λ c f s. leads_weaker (λ v t. Returns 0 s t) (λ v t. Lower 0 s t) (c.scan g [] s) (λ v t. returns_lower s t) (f.scan g [] s);
   settles = λ l s h. (h s (lower_none s)).scan g [];
+}
+
+pub lawful_gather : (g : Gathering) → Lawful (λ c. c.gather g [])
+lawful_gather g = record {
+  grows = λ c c' k s. k.gather g [] s;
+  falls = λ c f s. f.gather g [] s;
+  settles = λ l s h. (h s (lower_none s)).gather g [];
+}
+
+pub absorb_lawful : Lawful (λ c. c.gather Group [])
+absorb_lawful = lawful_gather Group
+
+pub lawful_copy : (t : Token) → Lawful (λ c. c.copy t)
+lawful_copy t = record {
+  grows = λ c c' k s. k.copy t s;
+  falls = λ c f s. leads_weaker (λ v u. Begins s u) (λ v u. Lower 0 s u) (c.copy t s) (λ v u. begins_less s u) (f.copy t s);
+  settles = λ l s h. (h s (lower_none s)).copy t;
 }

@@ -1,8 +1,8 @@
 -- Where a reading leads, and that taking leaves less to be read.
 use Rattle.std.proofs.Common.{◌≡◌, ◌+◌, ◌≤◌, ℕ, length, Option, refl, ◌∙◌, subst, arith, inl, inr, eq-or-lt_of_le}
 use Rattle.std.specs.Option.{option_to_list}
-use Rattle.texml_expand.specs.Next.{Given, Got, AtEnd, Invalid, next}
-use Rattle.texml_expand.specs.Codes.{cats_of, end_of}
+use Rattle.texml_input.specs.Next.{Given, Got, AtEnd, Invalid, NotUtf8, next}
+use Rattle.texml_input.specs.Codes.{cats_of, end_of}
 use Rattle.texml_expand.specs.State.{State, Gains, Answer, Done, Ended, Unfinished, Reading, after, chain}
 use Rattle.texml_expand.specs.Take.{take, take_given}
 use Rattle.texml_expand.specs.Contract.{Lower, Begins}
@@ -70,15 +70,16 @@ lower_less k s t l = lower_then k 0 0 s t t l (lower_none t) (omega arith)
 
 -- the token at the front is gone
 given_leads : (s : State) (g : Given) → next (cats_of s.world) (end_of s.world) s.rest s.place ≡ g → Leads (λ o t. Lower (count o) s t) (take_given g s)
-given_leads s (Got t rest place) e = record {
+given_leads s (Got t rest place bytes) e = record {
   limit = refl;
   nesting = refl;
   begun = omega arith;
-  size = λ _. let less = next_lower (cats_of s.world) (end_of s.world) s.rest rest s.place place t e in omega arith;
+  size = λ _. let less = next_lower (cats_of s.world) (end_of s.world) s.rest rest s.place place t bytes e in omega arith;
   within = λ lt. absurd (omega (arith, lt));
 }
-given_leads s (AtEnd place) e = record { limit = refl; nesting = refl; begun = omega arith; size = λ _. omega arith; within = λ lt. absurd (omega (arith, lt)) }
-given_leads s (Invalid c place) e = tt
+given_leads s (AtEnd place bytes) e = record { limit = refl; nesting = refl; begun = omega arith; size = λ _. omega arith; within = λ lt. absurd (omega (arith, lt)) }
+given_leads s (Invalid c place bytes) e = tt
+given_leads s (NotUtf8 place bytes) e = tt
 
 pub take_leads : (s : State) → Leads (λ o t. Lower (count o) s t) (take s)
 take_leads s = given_leads s (next (cats_of s.world) (end_of s.world) s.rest s.place) refl

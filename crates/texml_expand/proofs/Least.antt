@@ -3,8 +3,8 @@ use Rattle.std.proofs.Common.{◌≡◌, ◌+◌, ◌≤◌, ◌<◌, ℕ, zero,
 use Rattle.texml_token.specs.Token.{Token}
 use Rattle.texml_expand.specs.declared.feeding.Verdict.{Verdict}
 use Rattle.texml_expand.specs.declared.feeding.Verdict.TheVariants.{TooShort, Yields, Refuses}
-use Rattle.texml_expand.specs.Next.{Taken, Given, Got, AtEnd, Invalid, next}
-use Rattle.texml_expand.specs.Codes.{cats_of, end_of}
+use Rattle.texml_input.specs.Next.{Taken, Given, Got, AtEnd, Invalid, NotUtf8, next}
+use Rattle.texml_input.specs.Codes.{cats_of, end_of}
 use Rattle.texml_expand.specs.State.{State, End, room, nothing, Answer, Done, Ended, Unfinished, Reading, after, chain, IsDecided, give, ◌>>=◌}
 use Rattle.texml_expand.specs.Take.{take_given, take}
 use Rattle.texml_expand.specs.Least.{inside_if, inside, inner_token, next_tokens, least, decides, decided, is_enough, by_tokens, by_least}
@@ -52,9 +52,10 @@ pub takes_room : (k : ℕ) (s t : State) → Takes k s t → k ≤ room s
 takes_room k s t g = let l = g.lower.size g.begun in omega arith
 
 given_takes : (s : State) (g : Given) → Leads (λ o t. Lower (count o) s t) (take_given g s) → Leads (λ o t. Takes (count o) s t) (take_given g s)
-given_takes s (Got t rest place) l = record { begun = refl; lower = l }
-given_takes s (AtEnd place) l = record { begun = refl; lower = l }
-given_takes s (Invalid c place) l = tt
+given_takes s (Got t rest place bytes) l = record { begun = refl; lower = l }
+given_takes s (AtEnd place bytes) l = record { begun = refl; lower = l }
+given_takes s (Invalid c place bytes) l = tt
+given_takes s (NotUtf8 place bytes) l = tt
 
 pub take_takes : (s : State) → Leads (λ o t. Takes (count o) s t) (take s)
 take_takes s = given_takes s (next (cats_of s.world) (end_of s.world) s.rest s.place) (take_leads s)
@@ -111,7 +112,7 @@ next_decided (suc k) s = chain_decided (λ list t. Unit {0}) (next_tokens k s) o
 
 module _ {A : Type 0} (decide : List Token → Verdict A) where
   -- more tokens than there is room for are always enough
-  enough_past : (k : ℕ) (s : State) (a : Answer (List Token)) → room s < k → Leads (λ list t. Took k s list t) a → is_enough decide a ≡ true
+  pub enough_past : (k : ℕ) (s : State) (a : Answer (List Token)) → room s < k → Leads (λ list t. Took k s list t) a → is_enough decide a ≡ true
   enough_past k s (Done list t gains) lt h = let le = takes_room k s t h.takes in absurd (omega arith)
   enough_past k s (Ended e gains) lt h = refl
   enough_past k s (Unfinished gains) lt h = refl

@@ -1,26 +1,16 @@
 -- An argument is no longer than what is read for it.
-use Rattle.std.proofs.Common.{◌≡◌, ◌+◌, ◌-◌, ◌≤◌, ℕ, Bool, true, false, ◌&&◌, ◌||◌, not, if◌then◌else◌, List, [], ◌∷◌, ◌++◌, length, length-append, take, Option, None, Some, option_map, Result, Ok, Err, refl, ap, subst, arith}
+use Rattle.std.proofs.Common.{◌≡◌, ◌+◌, ◌-◌, ◌≤◌, ℕ, Bool, true, false, ◌&&◌, ◌||◌, not, if◌then◌else◌, List, [], ◌∷◌, ◌++◌, length, length-append, take, Option, None, Some, option_map, Ok, Err, refl, ap, subst, arith}
 use Rattle.std.specs.List.{list_any, ends_with}
 use Rattle.std.specs.Option.{unwrap_or}
-use Rattle.std.specs.Result.{IfOk}
-use Rattle.std.proofs.lemmas.List.{length-map, length-take-le}
+use Rattle.std.proofs.lemmas.List.{length-take-le}
 use Rattle.texml_token.specs.Token.{Token, has_category, token_eq}
-use Rattle.texml_token.specs.Numbers.{tokens_at}
-use Rattle.texml_token.specs.declared.tokens.Token.{Token as TokenCode}
 use Rattle.texml_token.specs.declared.category.TheConstants.{BEGIN_GROUP, END_GROUP, SPACE}
 use Rattle.texml_match.specs.declared.arg_match.MatchFault.TheVariants.{RunawayPar, ExtraBrace}
 use Rattle.texml_match.specs.Groups.{is_balanced, ends_unbegun, closes, but_last, inside, unbraced}
 use Rattle.texml_match.specs.Reading.{Read, Wants, Gives, Fails, Reader, Verdict, decided_or, least, behind}
 use Rattle.texml_match.specs.Arguments.{spaces, undelimited, delimited, argument_in, is_par, lets_par, verdict, argument}
-use Rattle.texml_expand.specs.declared.stop.Stop.{Stop}
 use Rattle.texml_expand.specs.declared.feeding.Verdict.TheVariants.{Yields}
-use Rattle.texml_expand.specs.State.{State, nothing, give}
-use Rattle.texml_expand.specs.Held.{Held, state_of, ok_at}
-use Rattle.texml_expand.specs.Contract.{Silent, Lower}
-use Rattle.texml_expand.specs.Arguments.{decided_by, read_by, sign, open_bracket, close_bracket, behind_bracket, read_argument, read_optional, optional}
-use Rattle.texml_expand.proofs.Leading.{Leads, leads_at, leads_chain, leads_weaker, lower_none, lower_then}
-use Rattle.texml_expand.proofs.Least.{Decides}
-use Rattle.texml_expand.proofs.Calling.{sign_leads, read_leads}
+use Rattle.texml_expand.specs.Arguments.{decided_by}
 
 -- parts of a list
 but_last_short : (list : List Token) → length (but_last list) ≤ length list
@@ -107,40 +97,12 @@ spaces_fit : (next : Reader (List Token)) → ((list : List Token) → Fits (len
 spaces_fit next h [] = tt
 spaces_fit next h (t ∷ ts) = if_space (has_category SPACE t) t ts next (spaces_fit next h ts) (h (t ∷ ts))
 
-argument_fits : (long : Bool) (delimiter list : List Token) → Fits (length list) (argument long delimiter list)
+pub argument_fits : (long : Bool) (delimiter list : List Token) → Fits (length list) (argument long delimiter list)
 argument_fits long [] list =
     spaces_fit (least (verdict long []) []) (λ l. fits_more (0 + length l) (length l) (least (verdict long []) [] l) (omega arith) (least_fits long [] [] l)) list
 argument_fits long (d ∷ ds) list = fits_more (0 + length list) (length list) (least (verdict long (d ∷ ds)) [] list) (omega arith) (least_fits long (d ∷ ds) [] list)
 
-yields_fits : (n : ℕ) (r : Read (List Token)) (a : List Token) → Fits n r → decided_by r ≡ Yields a → length a ≤ n
+pub yields_fits : (n : ℕ) (r : Read (List Token)) (a : List Token) → Fits n r → decided_by r ≡ Yields a → length a ≤ n
 yields_fits n Wants a h e = cc
 yields_fits n (Gives b left) a h e = let same : b ≡ a = cc in subst (λ l. length l ≤ n) same h
 yields_fits n (Fails f) a h e = cc
-
--- so less is left to be read by as many tokens as the argument has
-argument_leads : (long : Bool) (delimiter : List Token) (s : State) → Leads (λ a t. Lower (length a) s t) (read_by (argument long delimiter) s)
-argument_leads long delimiter s =
-    leads_weaker (Decides (λ list. decided_by (argument long delimiter list)) s) (λ a t. Lower (length a) s t) (read_by (argument long delimiter) s)
-    (λ a t d. lower_then (length d.list) 0 (length a) s t t d.lower (lower_none t)
-    (let le = yields_fits (length d.list) (argument long delimiter d.list) a (argument_fits long delimiter d.list) d.is in omega (arith, le)))
-    (read_leads (argument long delimiter) s)
-
-bracket_leads : (long found : Bool) (s t : State) → Lower 0 s t → Leads (λ o u. Lower (length (unwrap_or o [])) s u) (behind_bracket long found t)
-bracket_leads long false s t l = l
-bracket_leads long true s t l =
-    leads_chain (λ a u. Lower (length a) t u) (λ o u. Lower (length (unwrap_or o [])) s u) (read_by (argument long (close_bracket ∷ [])) t) (λ a. give (Some a)) (argument_leads long (close_bracket ∷ []) t)
-    (λ a u k. lower_then 0 (length a) (length a) s t u l k (omega arith))
-
-optional_leads : (long : Bool) (s : State) → Leads (λ o t. Lower (length (unwrap_or o [])) s t) (optional long s)
-optional_leads long s = leads_chain (λ found t. Lower 0 s t) (λ o t. Lower (length (unwrap_or o [])) s t) (sign open_bracket s) (behind_bracket long) (sign_leads open_bracket s) (λ found t l. bracket_leads long found s t l)
-
-pub argument_lower : (r : Result (List TokenCode) Stop) (s : State) (new : Held) → Silent (read_argument s) (ok_at (tokens_at new.names) r) (state_of new) → IfOk r (λ list. Lower (length list) s (state_of new))
-argument_lower (Ok list) s new h =
-    subst (λ n. Lower n s (state_of new)) (length-map list _) (leads_at (λ a t. Lower (length a) s t) (read_argument s) (tokens_at new.names list) (state_of new) nothing h (argument_leads true [] s))
-argument_lower (Err e) s new h = tt
-
-pub optional_lower : (r : Result (Option (List TokenCode)) Stop) (s : State) (new : Held) → Silent (read_optional s) (ok_at (option_map (tokens_at new.names)) r) (state_of new) → IfOk r (λ o. Lower (length (unwrap_or o [])) s (state_of new))
-optional_lower (Ok None) s new h = leads_at (λ o t. Lower (length (unwrap_or o [])) s t) (read_optional s) None (state_of new) nothing h (optional_leads true s)
-optional_lower (Ok (Some list)) s new h =
-    subst (λ n. Lower n s (state_of new)) (length-map list _) (leads_at (λ o t. Lower (length (unwrap_or o [])) s t) (read_optional s) (Some (tokens_at new.names list)) (state_of new) nothing h (optional_leads true s))
-optional_lower (Err e) s new h = tt

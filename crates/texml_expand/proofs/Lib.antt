@@ -1,7 +1,4 @@
 pub mod Items
-pub mod Pages
-pub mod Turns
-pub mod Onward
 pub mod Lower
 pub mod Catcodes
 pub mod Taking
@@ -15,6 +12,9 @@ pub mod Calling
 pub mod Readings
 pub mod Lawful
 pub mod Looking
+pub mod Standing
+pub mod Giving
+pub mod Branching
 pub mod Levels
 pub mod Settle
 pub mod Total
@@ -23,7 +23,14 @@ pub mod Meeting
 mod Rows
 pub mod Scanning
 pub mod Printing
+pub mod Copying
+pub mod Counting
+pub mod Spelled
+pub mod Named
+pub mod Behind
+pub mod Absorbing
 pub mod Judging
+pub mod Faces
 pub mod Fronts
 pub mod Doing
 pub mod Rounds
@@ -33,10 +40,24 @@ pub mod Worth
 pub mod Within
 pub mod Least
 pub mod Fed
+pub mod Stepping
+pub mod Skips
+pub mod Seeks
+pub mod Skipping
+pub mod Seeking
+pub mod Comparing
+pub mod Gifts
+pub mod Testing
 pub mod Groups
+pub mod Gatherer
+pub mod Gathered
 pub mod Sequence
 pub mod Spacing
 pub mod Matching
 pub mod Mapping
 pub mod Called
 pub mod Lengths
+pub mod Placing
+pub mod Running
+pub mod Getting
+pub mod Inputs

@@ -13,12 +13,12 @@ use Rattle.texml_scan.specs.Looked.{look_of}
 use Rattle.texml_expand.specs.declared.variables.Variable.{Variable}
 use Rattle.texml_expand.specs.declared.variables.Index.{Index}
 use Rattle.texml_expand.specs.declared.variables.Index.TheVariants.{Alone, Character, Register}
-use Rattle.texml_expand.specs.Next.{Taken}
+use Rattle.texml_input.specs.Next.{Taken}
 use Rattle.texml_expand.specs.State.{State, room, chain, IsDecided, give, fail}
 use Rattle.texml_expand.specs.Take.{take, means}
 use Rattle.texml_expand.specs.Variables.{variable_at, index_of, key_of, among, a_character, a_register, Internal, Number, internal_in, value_of}
 use Rattle.texml_expand.specs.Calls.{Seen, looks, Calls}
-use Rattle.texml_expand.specs.Quantities.{int_text, Looked, looked_at, as_it_counts, as_itself, expanded, unexpanded, next_looked, read_index, read_key, internal_of, internal, held_of, look_by, look, put_last, needed, shown, internal_now, the}
+use Rattle.texml_expand.specs.Quantities.{int_text, Looked, looked_at, as_it_counts, as_itself, expanded, unexpanded, next_looked, read_index, read_key, internal_of, internal, held_of, look_by, look, put_last, needed, shown, internal_now, next_internal, the}
 use Rattle.texml_expand.specs.Contract.{Lower}
 use Rattle.texml_expand.proofs.Items.{size_put}
 use Rattle.texml_expand.proofs.Leading.{Leads, leads_chain, leads_weaker, count, lower_less, take_leads}
@@ -128,30 +128,24 @@ lawful_look g seen t =
 
 -- What \the gives
 
-abbrev pub some_token : Option Looked → By Looked
-some_token o c = needed o
-
-pub lawful_needed : (o : Option Looked) → Lawful (some_token o)
-lawful_needed None = lawful_fail Looked FILE_ENDED []
+pub lawful_needed : {A : Type 0} (o : Option A) → Lawful (λ c. needed o)
+lawful_needed {A = A} None = lawful_fail A FILE_ENDED []
 lawful_needed (Some x) = lawful_give x
 
 pub lawful_internal_now : (t : Token) → Lawful (λ c. internal_now c t)
 lawful_internal_now t = lawful_by (λ s. means s.world t) (λ m c. internal c m) lawful_internal
 
-abbrev pub shown_now : Looked → By (List Token)
-shown_now x c s = chain (internal_now c x.counts s) (λ q. give (shown q))
+abbrev pub internal_behind : Option Looked → By Internal
+internal_behind o c s = chain (needed o s) (λ x. internal_now c x.counts)
 
-abbrev pub shown_behind : Option Looked → By (List Token)
-shown_behind o c s = chain (needed o s) (λ x. shown_now x c)
+pub lawful_internal_behind : (o : Option Looked) → Lawful (internal_behind o)
+lawful_internal_behind o = lawful_then (λ c. needed o) (λ x c. internal_now c x.counts) (lawful_needed o) (λ x. lawful_internal_now x.counts)
 
-pub lawful_shown_now : (x : Looked) → Lawful (shown_now x)
-lawful_shown_now x = lawful_then (λ c. internal_now c x.counts) (λ q c. give (shown q)) (lawful_internal_now x.counts) (λ q. lawful_give (shown q))
-
-pub lawful_shown_behind : (o : Option Looked) → Lawful (shown_behind o)
-lawful_shown_behind o = lawful_then (some_token o) shown_now (lawful_needed o) lawful_shown_now
+pub lawful_next_internal : Lawful next_internal
+lawful_next_internal = lawful_then expanded internal_behind lawful_expanded lawful_internal_behind
 
 pub lawful_the : Lawful the
-lawful_the = lawful_then expanded shown_behind lawful_expanded lawful_shown_behind
+lawful_the = lawful_then next_internal (λ q c. give (shown q)) lawful_next_internal (λ q. lawful_give (shown q))
 
 -- Tokens that go back
 

@@ -1,9 +1,11 @@
 -- Looking at tokens for a quantity, step by step.
 use Rattle.std.proofs.lemmas.Bool.Decides.{nat_tests}
-use Rattle.std.proofs.Common.{pos, ◌<◌, w32, to_z, ◌≡◌, ◌-◌, ◌≤◌, ℕ, suc, Bool, true, false, List, [], ◌∷◌, ◌++◌, map, length, Option, Some, None, Result, Ok, Err, refl, sym, ap, ap₂, ◌∙◌, arith, append_assoc}
+use Rattle.std.proofs.Common.{pos, ◌<◌, w32, to_z, ◌≡◌, ◌-◌, ◌≤◌, ℕ, suc, Bool, true, false, List, [], ◌∷◌, ◌++◌, map, length, Option, Some, None, Result, Ok, Err, refl, sym, ap, ap₂, ◌∙◌, arith, append_assoc, length-append}
 use Rattle.std.specs.Char.{IsScalar}
 use Rattle.std.proofs.lemmas.Int.{to_z_pos}
+use Rattle.std.specs.Result.{OnOk, IfOk}
 use Rattle.std.specs.List.{All}
+use Rattle.texml_base.specs.Outside.{Shelf}
 use Rattle.std.proofs.lemmas.List.{map-append}
 use Rattle.std.proofs.lemmas.List.Elements.{All-nil, All-cons, All-append}
 use Rattle.std.proofs.Math.ListN.{get_or}
@@ -14,13 +16,13 @@ use Rattle.texml_token.proofs.Translation.{token_kept, token_more}
 use Rattle.texml_watch.specs.declared.record.Record.{Record}
 use Rattle.texml_scope.specs.Shown.{KeyCode}
 use Rattle.texml_scope.specs.Texts.{Meaning}
-use Rattle.texml_scope.specs.Numbers.{MeaningCode, meaning_at, key_at, name_text}
+use Rattle.texml_scope.specs.Numbers.{MeaningCode, meaning_at, key_at, name_text, KeyWithin}
 use Rattle.texml_scope.specs.declared.values.MeaningOf.TheVariants as codes
 use Rattle.texml_token.specs.declared.fault_code.TheConstants.{MISSING_NUMBER}
 use Rattle.texml_expand.specs.declared.variables.Variable.{Variable}
 use Rattle.texml_expand.specs.declared.variables.Variable.TheVariants as variables
-use Rattle.texml_expand.specs.Variables.{Internal, key_of}
-use Rattle.texml_expand.specs.VariableCodes.{key_by, internal_at, held_by}
+use Rattle.texml_expand.specs.Variables.{Internal, index_of, key_of}
+use Rattle.texml_expand.specs.VariableCodes.{HasNumber, key_by, internal_at, held_by}
 use Rattle.texml_scan.specs.declared.looks.Look.{Look}
 use Rattle.texml_scan.specs.declared.looks.Look.TheVariants.{End}
 use Rattle.texml_scan.specs.declared.looks.Held.{Held as HeldLook}
@@ -41,12 +43,12 @@ use Rattle.texml_expand.specs.Take.{means}
 use Rattle.texml_expand.specs.Calls.{Seen, looks, Calls}
 use Rattle.texml_expand.specs.Quantities.{Looked, internal, held_of, look_by, look, decided_on, without_end, next_looked, scan_token, scan_next, scan_on}
 use Rattle.texml_expand.specs.Expand.{level}
-use Rattle.texml_expand.specs.Machine.{Value, scanned_as, ended_as, GoesOn, IsOver, machine_rest}
-use Rattle.texml_expand.specs.Scanning.{seen_at, all_seen_at, SeenWithin, raw_in, Turned}
-use Rattle.texml_expand.specs.Held.{Held, state_of, Sound, Kept}
-use Rattle.texml_expand.specs.Contract.{Lower}
+use Rattle.texml_expand.specs.Machine.{Value, scanned_as, ended_as, GoesOn, IsOver, HasValue, machine_rest}
+use Rattle.texml_expand.specs.Scanning.{seen_at, all_seen_at, SeenWithin, raw_in, MayGive, Turned}
+use Rattle.texml_expand.specs.Held.{Held, state_of, Sound, Kept, Owns, Shrinks, Puts}
+use Rattle.texml_expand.specs.Contract.{Outside}
 use Rattle.texml_expand.specs.Doing.{Does}
-use Rattle.texml_expand.proofs.Leading.{lower_none, lower_then}
+use Rattle.texml_expand.proofs.Running.{shrinks_none, shrinks_then, shrinks_puts}
 use Rattle.texml_expand.proofs.Lawful.{lawful_scan}
 use Rattle.texml_expand.proofs.Looking.{lawful_internal, lawful_looked, lawful_look}
 use Rattle.texml_expand.proofs.Total.{total, scan_is}
@@ -182,52 +184,54 @@ module _ {T : Type 0} (hear part : T → Record → T → Type 0) (g : Remainder
   one_look : (t : Token) (m : Meaning) (x : Scanned) (s : State) → m ≡ means s.world t → g (look_of t m held.Nothing ∷ []) ≡ scanned_as x → look total g [] t s ≡ look_by total t m (scanned_as x) s
   one_look t m x s same is = sym (ap (λ (m : Meaning). look_by total t m (g (look_of t m held.Nothing ∷ [])) s) same) ∙ ap (λ v. look_by total t m v s) is
 
-  pub look_now : (t : Token) (m : Meaning) (x : Scanned) (old : Held) (f : ℕ) (a : T) → Sound old → old.stop ≡ None → m ≡ means (state_of old).world t → g (look_of t m held.Nothing ∷ []) ≡ scanned_as x → (x ≡ scanned.Asked → ⊥)
+  pub look_now : (t : Token) (m : Meaning) (x : Scanned) (old : Held) (f : Outside) (a : T) → Sound old → old.stop ≡ None → Owns f.shelf old → m ≡ means (state_of f.shelf old).world t → g (look_of t m held.Nothing ∷ []) ≡ scanned_as x → (x ≡ scanned.Asked → ⊥)
       → Does hear part (λ n. look (level n) g [] t) (Ok (look_of t m held.Nothing)) old old f f a a
-  look_now t m x old f a sound running same is other =
+  look_now t m x old f a sound running owns same is other =
       does_of hear part (λ c. look c g [] t) (lawful_look g [] t) (Ok (look_of t m held.Nothing)) old old f f a a
-      (did_as hear part _ _ (Ok (look_of t m held.Nothing)) old old f f a a (one_look t m x (state_of old) same is ∙ plain_look total t m x (state_of old) other) (did_now hear part (look_of t m held.Nothing) old f a sound running))
+      (did_as hear part _ _ (Ok (look_of t m held.Nothing)) old old f f a a (one_look t m x (state_of f.shelf old) same is ∙ plain_look total t m x (state_of f.shelf old) other) (did_now hear part (look_of t m held.Nothing) old f a sound running owns))
 
   -- the quantity that it begins
-  by_internal : (t : Token) (m : Meaning) (r : Result Look Stop) (old new : Held) (f h : ℕ) (a b : T) → m ≡ means (state_of old).world t → g (look_of t m held.Nothing ∷ []) ≡ Wanting Asked
-      → Did hear part (look_by total t m (scanned_as scanned.Asked) (state_of old)) r old new f h a b → Does hear part (λ n. look (level n) g [] t) r old new f h a b
+  by_internal : (t : Token) (m : Meaning) (r : Result Look Stop) (old new : Held) (f h : Outside) (a b : T) → m ≡ means (state_of f.shelf old).world t → g (look_of t m held.Nothing ∷ []) ≡ Wanting Asked
+      → Did hear part (look_by total t m (scanned_as scanned.Asked) (state_of f.shelf old)) r old new f h a b → Does hear part (λ n. look (level n) g [] t) r old new f h a b
   by_internal t m r old new f h a b same is d =
-      does_of hear part (λ c. look c g [] t) (lawful_look g [] t) r old new f h a b (did_as hear part _ _ r old new f h a b (one_look t m scanned.Asked (state_of old) same is) d)
+      does_of hear part (λ c. look c g [] t) (lawful_look g [] t) r old new f h a b (did_as hear part _ _ r old new f h a b (one_look t m scanned.Asked (state_of f.shelf old) same is) d)
 
-  pub look_stops : (t : Token) (m : Meaning) (e : Stop) (old new : Held) (f h : ℕ) (a b : T) → m ≡ means (state_of old).world t → g (look_of t m held.Nothing ∷ []) ≡ Wanting Asked → Does hear part (λ n. internal (level n) m) (Err e) old new f h a b
+  pub look_stops : (t : Token) (m : Meaning) (e : Stop) (old new : Held) (f h : Outside) (a b : T) → m ≡ means (state_of f.shelf old).world t → g (look_of t m held.Nothing ∷ []) ≡ Wanting Asked → Does hear part (λ n. internal (level n) m) (Err e) old new f h a b
       → Does hear part (λ n. look (level n) g [] t) (Err e) old new f h a b
   look_stops t m e old new f h a b same is d =
       by_internal t m (Err e) old new f h a b same is
-      (did_stop hear part (internal total m (state_of old)) (λ q. give (look_of t m (held_of q))) e old new f h a b (did_of hear part (λ c. internal c m) (lawful_internal m) (Err e) old new f h a b d))
+      (did_stop hear part (internal total m (state_of f.shelf old)) (λ q. give (look_of t m (held_of q))) e old new f h a b (did_of hear part (λ c. internal c m) (lawful_internal m) (Err e) old new f h a b d))
 
-  pub look_done : (t : Token) (m : Meaning) (q : Internal) (old new : Held) (f h : ℕ) (a b : T) → m ≡ means (state_of old).world t → g (look_of t m held.Nothing ∷ []) ≡ Wanting Asked → Does hear part (λ n. internal (level n) m) (Ok q) old new f h a b
+  pub look_done : (t : Token) (m : Meaning) (q : Internal) (old new : Held) (f h : Outside) (a b : T) → m ≡ means (state_of f.shelf old).world t → g (look_of t m held.Nothing ∷ []) ≡ Wanting Asked → Does hear part (λ n. internal (level n) m) (Ok q) old new f h a b
       → Does hear part (λ n. look (level n) g [] t) (Ok (look_of t m (held_of q))) old new f h a b
   look_done t m q old new f h a b same is d =
       by_internal t m (Ok (look_of t m (held_of q))) old new f h a b same is
-      (did_then hear part (internal total m (state_of old)) (λ q. give (look_of t m (held_of q))) q (Ok (look_of t m (held_of q))) old new new f h h a b b (did_of hear part (λ c. internal c m) (lawful_internal m) (Ok q) old new f h a b d)
-      (did_now hear part (look_of t m (held_of q)) new h b d.keeps.sound d.stops.kept))
+      (did_then hear part (internal total m (state_of f.shelf old)) (λ q. give (look_of t m (held_of q))) q (Ok (look_of t m (held_of q))) old new new f h h a b b (did_of hear part (λ c. internal c m) (lawful_internal m) (Ok q) old new f h a b d)
+      (did_now hear part (look_of t m (held_of q)) new h b d.keeps.sound d.stops.kept d.holds.owns))
 
-  abbrev Scan : List SeenCode → Result Value Stop → Held → Held → ℕ → ℕ → T → T → Type 0
-  Scan seen r old new f k a b = Did hear part (total.scan g (all_seen_at old.names seen) (state_of old)) r old new f k a b
+  abbrev Scan : List SeenCode → Result Value Stop → Held → Held → Outside → Outside → T → T → Type 0
+  Scan seen r old new f k a b = Did hear part (total.scan g (all_seen_at old.names seen) (state_of f.shelf old)) r old new f k a b
 
   -- an engine that looks at tokens: these were seen, the scanner stands for what is left, and what it does from now on is what the whole does
-  pub record Scanning (old : Held) (f : ℕ) (a : T) (rest : Remainder Value) (x : Scanned) (seen : List SeenCode) (now : Held) (k : ℕ) (b : T) : Type 0 where
+  pub record Scanning (old : Held) (f : Outside) (a : T) (rest : Remainder Value) (x : Scanned) (seen : List SeenCode) (now : Held) (k : Outside) (b : T) : Type 0 where
     pub running : now.stop ≡ None
     pub sound : Sound now
     pub within : All (SeenWithin (length now.names)) seen
     pub is : g (looks_in seen) ≡ scanned_as x
     pub left : GoesOn x ((more : List Look) → rest more ≡ g (looks_in seen ++ more))
-    pub lower : Lower 0 (state_of old) (state_of now)
-    pub on : (r : Result Value Stop) (new : Held) (h : ℕ) (c : T) → Scan seen r now new k h b c → Scan [] r old new f h a c
+    pub owns : Owns k.shelf now
+    pub lower : Shrinks (length seen) f.shelf old k.shelf now
+    pub on : (r : Result Value Stop) (new : Held) (h : Outside) (c : T) → Scan seen r now new k h b c → Scan [] r old new f h a c
 
-  pub scanning_none : (h : Held) (f : ℕ) (a : T) (left : Remainder Value) (x : Scanned) → h.stop ≡ None → Sound h → g [] ≡ scanned_as x → ((more : List Look) → left more ≡ g more) → Scanning h f a left x [] h f a
-  scanning_none h f a left x running sound is same = record {
+  pub scanning_none : (h : Held) (f : Outside) (a : T) (left : Remainder Value) (x : Scanned) → h.stop ≡ None → Sound h → Owns f.shelf h → g [] ≡ scanned_as x → ((more : List Look) → left more ≡ g more) → Scanning h f a left x [] h f a
+  scanning_none h f a left x running sound owns is same = record {
     running = running;
     sound = sound;
     within = All-nil (SeenWithin (length h.names));
     is = is;
     left = always x ((more : List Look) → left more ≡ g more) same;
-    lower = lower_none (state_of h);
+    owns = owns;
+    lower = shrinks_none f.shelf h;
     on = λ r new k c d. d;
   }
     where
@@ -238,76 +242,76 @@ module _ {T : Type 0} (hear part : T → Record → T → Type 0) (g : Remainder
       always (scanned.Decided v n) P h = tt
       always (scanned.Faulty f) P h = tt
 
-  pub scan_does : (r : Result Value Stop) (old now new : Held) (f k h : ℕ) (a b c : T) (left : Remainder Value) (x : Scanned) (seen : List SeenCode) → Scanning old f a left x seen now k b → Scan seen r now new k h b c
+  pub scan_does : (r : Result Value Stop) (old now new : Held) (f k h : Outside) (a b c : T) (left : Remainder Value) (x : Scanned) (seen : List SeenCode) → Scanning old f a left x seen now k b → Scan seen r now new k h b c
       → Does hear part (λ n. (level n).scan g []) r old new f h a c
   scan_does r old now new f k h a b c left x seen i d = does_of hear part (λ c. c.scan g []) (lawful_scan g) r old new f h a c (i.on r new h c d)
 
   -- by what the scanner makes of what was seen
-  by_verdict : (r : Result Value Stop) (now new : Held) (k h : ℕ) (b c : T) (seen : List SeenCode) (x : Scanned) → g (looks_in seen) ≡ scanned_as x → Did hear part (scan_on total g (all_seen_at now.names seen) (scanned_as x) (state_of now)) r now new k h b c
+  by_verdict : (r : Result Value Stop) (now new : Held) (k h : Outside) (b c : T) (seen : List SeenCode) (x : Scanned) → g (looks_in seen) ≡ scanned_as x → Did hear part (scan_on total g (all_seen_at now.names seen) (scanned_as x) (state_of k.shelf now)) r now new k h b c
       → Scan seen r now new k h b c
   by_verdict r now new k h b c seen x is d =
       did_as hear part _ _ r now new k h b c
-      (scan_is g (all_seen_at now.names seen) (state_of now) ∙ ap (λ v. scan_on total g (all_seen_at now.names seen) v (state_of now)) (ap g (looks_at now.names seen) ∙ is)) d
+      (scan_is g (all_seen_at now.names seen) (state_of k.shelf now) ∙ ap (λ v. scan_on total g (all_seen_at now.names seen) v (state_of k.shelf now)) (ap g (looks_at now.names seen) ∙ is)) d
 
   -- the scanner has decided
-  pub scan_decides : (r : Result Value Stop) (old now new : Held) (f k h : ℕ) (a b c : T) (left : Remainder Value) (x : Scanned) (seen : List SeenCode) → Scanning old f a left x seen now k b → raw_in x ≡ None
-      → Did hear part (decided_on (all_seen_at now.names seen) (scanned_as x) (state_of now)) r now new k h b c → Does hear part (λ n. (level n).scan g []) r old new f h a c
+  pub scan_decides : (r : Result Value Stop) (old now new : Held) (f k h : Outside) (a b c : T) (left : Remainder Value) (x : Scanned) (seen : List SeenCode) → Scanning old f a left x seen now k b → raw_in x ≡ None
+      → Did hear part (decided_on (all_seen_at now.names seen) (scanned_as x) (state_of k.shelf now)) r now new k h b c → Does hear part (λ n. (level n).scan g []) r old new f h a c
   scan_decides r old now new f k h a b c left x seen i none d =
       scan_does r old now new f k h a b c left x seen i
-      (by_verdict r now new k h b c seen x i.is (did_as hear part _ _ r now new k h b c (wants_none total g (all_seen_at now.names seen) x (state_of now) none) d))
+      (by_verdict r now new k h b c seen x i.is (did_as hear part _ _ r now new k h b c (wants_none total g (all_seen_at now.names seen) x (state_of k.shelf now) none) d))
 
   -- by the next token
-  by_token : (r : Result Value Stop) (now new : Held) (k h : ℕ) (b c : T) (seen : List SeenCode) (x : Scanned) (raw : Bool) → g (looks_in seen) ≡ scanned_as x → raw_in x ≡ Some raw → Did hear part (scan_next total g (all_seen_at now.names seen) raw (state_of now)) r now new k h b c
+  by_token : (r : Result Value Stop) (now new : Held) (k h : Outside) (b c : T) (seen : List SeenCode) (x : Scanned) (raw : Bool) → g (looks_in seen) ≡ scanned_as x → raw_in x ≡ Some raw → Did hear part (scan_next total g (all_seen_at now.names seen) raw (state_of k.shelf now)) r now new k h b c
       → Scan seen r now new k h b c
   by_token r now new k h b c seen x raw is some d =
-      by_verdict r now new k h b c seen x is (did_as hear part _ _ r now new k h b c (wants_one total g (all_seen_at now.names seen) x raw (state_of now) some) d)
+      by_verdict r now new k h b c seen x is (did_as hear part _ _ r now new k h b c (wants_one total g (all_seen_at now.names seen) x raw (state_of k.shelf now) some) d)
 
   -- it can't be looked at
-  pub scan_stops : (e : Stop) (old now new : Held) (f k h : ℕ) (a b c : T) (left : Remainder Value) (x : Scanned) (seen : List SeenCode) (raw : Bool) → Scanning old f a left x seen now k b → raw_in x ≡ Some raw
+  pub scan_stops : (e : Stop) (old now new : Held) (f k h : Outside) (a b c : T) (left : Remainder Value) (x : Scanned) (seen : List SeenCode) (raw : Bool) → Scanning old f a left x seen now k b → raw_in x ≡ Some raw
       → Does hear part (λ n. next_looked (level n) raw) (Err e) now new k h b c → Does hear part (λ n. (level n).scan g []) (Err e) old new f h a c
   scan_stops e old now new f k h a b c left x seen raw i some d =
       scan_does (Err e) old now new f k h a b c left x seen i
       (by_token (Err e) now new k h b c seen x raw i.is some
-      (did_stop hear part (next_looked total raw (state_of now)) (scan_token total g (all_seen_at now.names seen)) e now new k h b c (did_of hear part (λ c. next_looked c raw) (lawful_looked raw) (Err e) now new k h b c d)))
+      (did_stop hear part (next_looked total raw (state_of k.shelf now)) (scan_token total g (all_seen_at now.names seen)) e now new k h b c (did_of hear part (λ c. next_looked c raw) (lawful_looked raw) (Err e) now new k h b c d)))
 
   -- behind a token, and what follows it
-  by_looked : (o : Option Looked) (r : Result Value Stop) (now mid new : Held) (k j h : ℕ) (b y c : T) (seen : List SeenCode) (x : Scanned) (raw : Bool) → g (looks_in seen) ≡ scanned_as x → raw_in x ≡ Some raw
-      → Does hear part (λ n. next_looked (level n) raw) (Ok o) now mid k j b y → Did hear part (scan_token total g (all_seen_at now.names seen) o (state_of mid)) r mid new j h y c → Scan seen r now new k h b c
+  by_looked : (o : Option Looked) (r : Result Value Stop) (now mid new : Held) (k j h : Outside) (b y c : T) (seen : List SeenCode) (x : Scanned) (raw : Bool) → g (looks_in seen) ≡ scanned_as x → raw_in x ≡ Some raw
+      → Does hear part (λ n. next_looked (level n) raw) (Ok o) now mid k j b y → Did hear part (scan_token total g (all_seen_at now.names seen) o (state_of j.shelf mid)) r mid new j h y c → Scan seen r now new k h b c
   by_looked o r now mid new k j h b y c seen x raw is some d e =
       by_token r now new k h b c seen x raw is some
-      (did_then hear part (next_looked total raw (state_of now)) (scan_token total g (all_seen_at now.names seen)) o r now mid new k j h b y c
+      (did_then hear part (next_looked total raw (state_of k.shelf now)) (scan_token total g (all_seen_at now.names seen)) o r now mid new k j h b y c
       (did_of hear part (λ c. next_looked c raw) (lawful_looked raw) (Ok o) now mid k j b y d) e)
 
   -- the end
-  pub scan_ends : (r : Result Value Stop) (old now mid new : Held) (f k j h : ℕ) (a b y c : T) (left : Remainder Value) (x end : Scanned) (seen : List SeenCode) (raw : Bool) → Scanning old f a left x seen now k b → raw_in x ≡ Some raw
-      → Does hear part (λ n. next_looked (level n) raw) (Ok None) now mid k j b y → left (End ∷ []) ≡ ended_as end → IsOver end → Did hear part (decided_on (all_seen_at mid.names seen) (scanned_as end) (state_of mid)) r mid new j h y c
+  pub scan_ends : (r : Result Value Stop) (old now mid new : Held) (f k j h : Outside) (a b y c : T) (left : Remainder Value) (x end : Scanned) (seen : List SeenCode) (raw : Bool) → Scanning old f a left x seen now k b → raw_in x ≡ Some raw
+      → Does hear part (λ n. next_looked (level n) raw) (Ok None) now mid k j b y → left (End ∷ []) ≡ ended_as end → IsOver end → Did hear part (decided_on (all_seen_at mid.names seen) (scanned_as end) (state_of j.shelf mid)) r mid new j h y c
       → Does hear part (λ n. (level n).scan g []) r old new f h a c
   scan_ends r old now mid new f k j h a b y c left x end seen raw i some d is over e =
       let same = ap without_end (ap (λ l. g (l ++ End ∷ [])) (looks_at now.names seen) ∙ sym (goes_on x raw _ some i.left (End ∷ [])) ∙ is) ∙ end_gone end over in
       scan_does r old now new f k h a b c left x seen i
       (by_looked None r now mid new k j h b y c seen x raw i.is some d
       (did_as hear part _ _ r mid new j h y c
-      (ap (λ v. decided_on (all_seen_at now.names seen) v (state_of mid)) same ∙ ap (λ l. decided_on l (scanned_as end) (state_of mid)) (sym (seen_kept now.names mid.names d.keeps.grows seen i.within))) e))
+      (ap (λ v. decided_on (all_seen_at now.names seen) v (state_of j.shelf mid)) same ∙ ap (λ l. decided_on l (scanned_as end) (state_of j.shelf mid)) (sym (seen_kept now.names mid.names d.keeps.grows seen i.within))) e))
 
   -- a token whose look can't be told
-  pub scan_unseen : (e : Stop) (old now mid new : Held) (f k j h : ℕ) (a b y c : T) (left : Remainder Value) (x : Scanned) (seen : List SeenCode) (raw : Bool) (t : Looked) → Scanning old f a left x seen now k b → raw_in x ≡ Some raw
+  pub scan_unseen : (e : Stop) (old now mid new : Held) (f k j h : Outside) (a b y c : T) (left : Remainder Value) (x : Scanned) (seen : List SeenCode) (raw : Bool) (t : Looked) → Scanning old f a left x seen now k b → raw_in x ≡ Some raw
       → Does hear part (λ n. next_looked (level n) raw) (Ok (Some t)) now mid k j b y → Does hear part (λ n. look (level n) left [] t.counts) (Err e) mid new j h y c → Does hear part (λ n. (level n).scan g []) (Err e) old new f h a c
   scan_unseen e old now mid new f k j h a b y c left x seen raw t i some d u =
-      let same = look_same total g (all_seen_at now.names seen) left t.counts (state_of mid) (λ more. goes_on x raw _ some i.left more ∙ ap (λ l. g (l ++ more)) (sym (looks_at now.names seen))) in
+      let same = look_same total g (all_seen_at now.names seen) left t.counts (state_of j.shelf mid) (λ more. goes_on x raw _ some i.left more ∙ ap (λ l. g (l ++ more)) (sym (looks_at now.names seen))) in
       scan_does (Err e) old now new f k h a b c left x seen i
       (by_looked (Some t) (Err e) now mid new k j h b y c seen x raw i.is some d
-      (did_stop hear part (look total g (all_seen_at now.names seen) t.counts (state_of mid)) _ e mid new j h y c
+      (did_stop hear part (look total g (all_seen_at now.names seen) t.counts (state_of j.shelf mid)) _ e mid new j h y c
       (did_as hear part _ _ (Err e) mid new j h y c same (did_of hear part (λ c. look c left [] t.counts) (lawful_look left [] t.counts) (Err e) mid new j h y c u))))
 
   -- one more token was looked at
-  pub scanning_on : (old now mid new : Held) (f k j h : ℕ) (a b y c : T) (m n : Machine) (x z : Scanned) (seen : List SeenCode) (raw : Bool) (t : LookedCode) (l : Look) → Scanning old f a (machine_rest m) x seen now k b → raw_in x ≡ Some raw
+  pub scanning_on : (old now mid new : Held) (f k j h : Outside) (a b y c : T) (m n : Machine) (x z : Scanned) (seen : List SeenCode) (raw : Bool) (t : LookedCode) (l : Look) → Scanning old f a (machine_rest m) x seen now k b → raw_in x ≡ Some raw
       → Does hear part (λ n. next_looked (level n) raw) (Ok (Some (record { token = token_at mid.names t.token; counts = token_at mid.names t.counts }))) now mid k j b y → TokenWithin (length mid.names) t.token
-      → Lower 1 (state_of now) (state_of mid) → Does hear part (λ n. look (level n) (machine_rest m) [] (token_at mid.names t.counts)) (Ok l) mid new j h y c → Lower 0 (state_of mid) (state_of new) → Turned m l z n
+      → Shrinks 1 k.shelf now j.shelf mid → Does hear part (λ n. look (level n) (machine_rest m) [] (token_at mid.names t.counts)) (Ok l) mid new j h y c → Shrinks 0 j.shelf mid h.shelf new → Turned m l z n
       → Scanning old f a (machine_rest n) z (seen ++ record { token = t.token; look = l } ∷ []) new h c
   scanning_on old now mid new f k j h a b y c m n x z seen raw t l i some d w low u lower turned =
       let left : (more : List Look) → machine_rest m more ≡ g (looks_in seen ++ more) = goes_on x raw ((more : List Look) → machine_rest m more ≡ g (looks_in seen ++ more)) some i.left in
       let first : Looked = record { token = token_at mid.names t.token; counts = token_at mid.names t.counts } in
-      let same = look_same total g (all_seen_at now.names seen) (machine_rest m) (token_at mid.names t.counts) (state_of mid) (λ more. left more ∙ ap (λ l. g (l ++ more)) (sym (looks_at now.names seen))) in
+      let same = look_same total g (all_seen_at now.names seen) (machine_rest m) (token_at mid.names t.counts) (state_of j.shelf mid) (λ more. left more ∙ ap (λ l. g (l ++ more)) (sym (looks_at now.names seen))) in
       let mine : SeenCode = record { token = t.token; look = l } in
       let kept : Kept now new = kept_then now mid new d.keeps u.keeps in
       record {
@@ -317,10 +321,51 @@ module _ {T : Type 0} (hear part : T → Record → T → Type 0) (g : Remainder
             (All-cons (SeenWithin (length new.names)) mine [] (token_more (length mid.names) (length new.names) u.keeps.grows.longer t.token w) (All-nil (SeenWithin (length new.names))));
         is = ap g (map-append (λ (x : SeenCode). x.look) seen (mine ∷ [])) ∙ sym (left (l ∷ [])) ∙ turned.is;
         left = goes_map z ((more : List Look) → machine_rest m (l ∷ more) ≡ machine_rest n more) ((more : List Look) → machine_rest n more ≡ g (looks_in (seen ++ mine ∷ []) ++ more)) (λ h more. sym (h more) ∙ left (l ∷ more) ∙ ap g (looks_one seen mine more)) turned.on;
-        lower = lower_then 0 0 0 (state_of old) (state_of now) (state_of new) i.lower (lower_then 1 0 0 (state_of now) (state_of mid) (state_of new) low lower (omega arith)) (omega arith);
+        owns = u.holds.owns;
+        lower = shrinks_then (length seen) 1 (length (seen ++ mine ∷ [])) f.shelf k.shelf h.shelf old now new i.lower (shrinks_then 1 0 1 k.shelf j.shelf h.shelf now mid new low lower (omega arith)) (omega (arith, length-append seen (mine ∷ [])));
         on = λ r q p v done. i.on r q p v
             (by_looked (Some first) r now mid q k j p b y v seen x raw i.is some d
-            (did_then hear part (look total g (all_seen_at now.names seen) (token_at mid.names t.counts) (state_of mid)) _ l r mid new q j h p y c v
+            (did_then hear part (look total g (all_seen_at now.names seen) (token_at mid.names t.counts) (state_of j.shelf mid)) _ l r mid new q j h p y c v
             (did_as hear part _ _ (Ok l) mid new j h y c same (did_of hear part (λ c. look c (machine_rest m) [] (token_at mid.names t.counts)) (lawful_look (machine_rest m) [] (token_at mid.names t.counts)) (Ok l) mid new j h y c u))
-            (did_as hear part _ _ r new q h p c v (ap (λ s. total.scan g s (state_of new)) (seen_one now.names mid.names new.names kept.grows u.keeps.grows seen mine i.within w)) done)));
+            (did_as hear part _ _ r new q h p c v (ap (λ s. total.scan g s (state_of h.shelf new)) (seen_one now.names mid.names new.names kept.grows u.keeps.grows seen mine i.within w)) done)));
       }
+
+-- what was seen is put back at most
+pub scanned_shrinks : (r : Result Value Stop) (n : ℕ) (a b : Shelf) (old now new : Held) → Shrinks n a old b now → OnOk r (Puts n now new) → OnOk r (Shrinks 0 a old b new)
+scanned_shrinks (Ok v) n a b old now new s p = shrinks_puts n n 0 a b old now new s p (omega arith)
+scanned_shrinks (Err e) n a b old now new s p = tt
+
+-- the value that was decided on is one that the scanner may give
+pub decided_gives : (g : Remainder Value) (r : Result Value Stop) (xs : List Look) (x : Scanned) → g xs ≡ scanned_as x → IfOk r (λ v. HasValue v x) → IfOk r (MayGive g)
+decided_gives g (Ok v) xs scanned.Expanded is h = absurd h
+decided_gives g (Ok v) xs scanned.Raw is h = absurd h
+decided_gives g (Ok v) xs scanned.Asked is h = absurd h
+decided_gives g (Ok v) xs (scanned.Decided w n) is h = record { looks = xs; back = n; is = is ∙ ap (λ z. Decided z n) h }
+decided_gives g (Ok v) xs (scanned.Faulty f) is h = absurd h
+decided_gives g (Err e) xs x is h = tt
+
+pub ended_gives : (g : Remainder Value) (r : Result Value Stop) (xs : List Look) (x : Scanned) → g xs ≡ ended_as x → IfOk r (λ v. HasValue v x) → IfOk r (MayGive g)
+ended_gives g (Ok v) xs scanned.Expanded is h = absurd h
+ended_gives g (Ok v) xs scanned.Raw is h = absurd h
+ended_gives g (Ok v) xs scanned.Asked is h = absurd h
+ended_gives g (Ok v) xs (scanned.Decided w n) is h = record { looks = xs; back = suc n; is = is ∙ ap (λ z. Decided z (suc n)) h }
+ended_gives g (Ok v) xs (scanned.Faulty f) is h = absurd h
+ended_gives g (Err e) xs x is h = tt
+
+-- the end is no token of what was seen
+pub end_gives : {T : Type 0} (hear part : T → Record → T → Type 0) (g : Remainder Value) (r : Result Value Stop) (old now : Held) (f k : Outside) (a b : T) (left : Remainder Value) (x end : Scanned) (seen : List SeenCode) (raw : Bool)
+    → Scanning hear part g old f a left x seen now k b → raw_in x ≡ Some raw → left (End ∷ []) ≡ ended_as end → IfOk r (λ v. HasValue v end) → IfOk r (MayGive g)
+end_gives hear part g r old now f k a b left x end seen raw i some is h =
+    ended_gives g r (looks_in seen ++ End ∷ []) end (sym (goes_on x raw ((more : List Look) → left more ≡ g (looks_in seen ++ more)) some i.left (End ∷ [])) ∙ is) h
+
+-- so many names give the key of a variable, which has none
+pub key_within : (count : ℕ) (v : Variable) (n : ℕ) → HasNumber (index_of v) n → KeyWithin count (key_by v n)
+key_within count variables.Cat n h = h
+key_within count variables.Lower n h = h
+key_within count variables.Upper n h = h
+key_within count variables.EscapeChar n h = tt
+key_within count variables.EndLineChar n h = tt
+key_within count variables.Count n h = tt
+key_within count variables.Dimen n h = tt
+key_within count variables.Skip n h = tt
+key_within count variables.Toks n h = tt

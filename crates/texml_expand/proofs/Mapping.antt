@@ -1,7 +1,9 @@
 -- A reading by the least number of next tokens, of which the value alone is changed.
-use Rattle.std.proofs.Common.{◌≡◌, ◌+◌, ℕ, zero, suc, Bool, List, [], ◌∷◌, ◌++◌, append-nil, if◌then◌else◌, map, slice_index_or, Err, refl, sym, ap, ap₂, ◌∙◌, subst}
+use Rattle.std.proofs.Common.{◌≡◌, ◌+◌, ℕ, zero, suc, Bool, List, [], ◌∷◌, ◌++◌, append-nil, if◌then◌else◌, map, length, slice_index_or, Ok, Err, refl, sym, ap, ap₂, ◌∙◌, subst, arith}
+use Rattle.std.proofs.lemmas.List.{length-map}
+use Rattle.texml_base.specs.Outside.{Shelf}
 use Rattle.texml_token.specs.Token.{Token}
-use Rattle.texml_token.specs.Numbers.{Table, tokens_at}
+use Rattle.texml_token.specs.Numbers.{Table, token_at, tokens_at}
 use Rattle.texml_token.specs.declared.tokens.Token.{Token as TokenCode}
 use Rattle.texml_match.specs.Shape.{Shape, shape_at}
 use Rattle.texml_match.specs.Reading.{Read, Wants, Gives, Fails, behind, give as give_read, ◌>>=◌}
@@ -10,10 +12,16 @@ use Rattle.texml_expand.specs.declared.stop.Stop.{Stop}
 use Rattle.texml_expand.specs.declared.stop.Stop.TheVariants as stop
 use Rattle.texml_expand.specs.declared.feeding.Verdict.{Verdict}
 use Rattle.texml_expand.specs.declared.feeding.Verdict.TheVariants.{TooShort, Yields, Refuses}
-use Rattle.texml_expand.specs.State.{State, Gains, End, Tex, Limit, room, nothing, ◌⊕◌, Answer, Done, Ended, Unfinished, after, chain, give}
+use Rattle.texml_expand.specs.State.{State, Gains, End, Tex, Limit, room, nothing, ◌⊕◌, Answer, Done, Ended, Unfinished, Reading, after, chain, give}
 use Rattle.texml_expand.specs.Least.{next_tokens, least, decides, decided, is_enough, by_tokens, by_least}
 use Rattle.texml_expand.specs.Arguments.{decided_by, read_by}
-use Rattle.texml_expand.specs.Contract.{Silent}
+use Rattle.texml_expand.specs.Contract.{Quiet, Outside}
+use Rattle.texml_expand.specs.Held.{Held, state_of, Shrinks}
+use Rattle.texml_expand.specs.Doing.{Gets}
+use Rattle.texml_expand.specs.Matched.{MatchedBy}
+use Rattle.texml_expand.proofs.Lengths.{argument_fits, yields_fits}
+use Rattle.texml_expand.proofs.Running.{shrinks_less, runs_as, runs_stop, gets_runs}
+use Rattle.texml_expand.proofs.Getting.{gets_by}
 
 abbrev pub verdict_map : {A B : Type 0} → (A → B) → Verdict A → Verdict B
 verdict_map f TooShort = TooShort
@@ -54,7 +62,7 @@ module _ {A B : Type 0} (f : A → B) (d : List Token → Verdict A) (e : List T
 abbrev pub one : List Token → List (List Token)
 one a = a ∷ []
 
-one_read : (long : Bool) (r : Read (List Token)) → decided_by (behind r (λ first. arguments long [] >>= (λ others. give_read (first ∷ others)))) ≡ verdict_map one (decided_by r)
+pub one_read : (long : Bool) (r : Read (List Token)) → decided_by (behind r (λ first. arguments long [] >>= (λ others. give_read (first ∷ others)))) ≡ verdict_map one (decided_by r)
 one_read long Wants = refl
 one_read long (Gives a left) = refl
 one_read long (Fails f) = refl
@@ -86,20 +94,34 @@ one_ended (Ended end' gains) end e =
     ap₂ (λ x g. Ended x g) same none
 one_ended (Unfinished gains) end e = cc
 
-pub one_stops : (x : Answer (List Token)) (e : Stop) (s t : State) → Silent (chain x (λ a. give (one a))) (Err e) s → Silent x (Err e) t
+pub one_stops : (x : Answer (List Token)) (e : Stop) (s t : State) → Quiet (chain x (λ a. give (one a))) (Err e) s → Quiet x (Err e) t
 one_stops x (stop.Tex n) s t h = one_ended x (Tex n) h
 one_stops x (stop.Limit n) s t h = one_ended x (Limit n) h
-one_stops x stop.ReadFailed s t h = absurd h
+one_stops x stop.ReadFailed s t h = tt
 one_stops x stop.TellFailed s t h = absurd h
 one_stops x stop.NoMemory s t h = tt
 
--- a shape of the code that asks for one argument
-module _ (texts : Table) (shape : Shape TokenCode) (long : Bool) (delimiter : List TokenCode) (is : shape ≡ record { prefix = []; delimiters = delimiter ∷ []; long = long }) (s : State) where
-  shape_one : read_by (reading (shape_at texts shape)) s ≡ chain (read_by (argument long (tokens_at texts delimiter)) s) (λ a. give (one a))
-  shape_one = ap (λ x. read_by (reading (shape_at texts x)) s) is ∙ reading_one long (tokens_at texts delimiter) s
+one_yields : (v : Verdict (List Token)) (l : List (List Token)) → verdict_map one v ≡ Yields l → (a : List Token) × (v ≡ Yields a) × (l ≡ one a)
+one_yields TooShort l e = cc
+one_yields (Yields a) l e = (a, refl, cc)
+one_yields (Refuses code) l e = cc
 
-  pub argument_stops : (e : Stop) (t u : State) → Silent (read_by (reading (shape_at texts shape)) s) (Err e) t → Silent (read_by (argument long (tokens_at texts delimiter)) s) (Err e) u
-  argument_stops e t u h = one_stops (read_by (argument long (tokens_at texts delimiter)) s) e t u (subst (λ x. Silent x (Err e) t) shape_one h)
+-- a shape of the code that asks for one argument
+module _ (old : Held) (shape : Shape TokenCode) (long : Bool) (delimiter : List TokenCode) (is : shape ≡ record { prefix = []; delimiters = delimiter ∷ []; long = long }) where
+  abbrev whole : Reading (List (List Token))
+  whole = read_by (reading (shape_at old.names shape))
+
+  abbrev alone : Reading (List Token)
+  alone = read_by (argument long (tokens_at old.names delimiter))
+
+  shape_one : (s : State) → whole s ≡ chain (alone s) (λ a. give (one a))
+  shape_one s = ap (λ x. read_by (reading (shape_at old.names x)) s) is ∙ reading_one long (tokens_at old.names delimiter) s
+
+  pub argument_stops : (e : Stop) (new : Held) (f g : Outside) → Gets whole (Err e) old new f g → Gets alone (Err e) old new f g
+  argument_stops e new f g d =
+      gets_by alone (Err e) old new f g
+      (λ told. one_stops (alone (state_of f.shelf old)) e (state_of g.shelf new) (state_of g.shelf new) (subst (λ x. Quiet x (Err e) (state_of g.shelf new)) (shape_one (state_of f.shelf old)) (d.reads told)))
+      (runs_stop e old new f g (gets_runs whole (Err e) old new f g d))
 
   first_is : (new : Table) (args : List (List TokenCode)) (first : List TokenCode) (a : List Token) → first ≡ slice_index_or args 0 [] → map (tokens_at new) args ≡ one a → a ≡ tokens_at new first
   first_is new [] first a e h = cc
@@ -107,8 +129,19 @@ module _ (texts : Table) (shape : Shape TokenCode) (long : Bool) (delimiter : Li
       let same : tokens_at new b ≡ a = cc in
       sym same ∙ ap (tokens_at new) (sym e)
 
-  pub argument_done : (new : Table) (args : List (List TokenCode)) (first : List TokenCode) (t : State) → read_by (reading (shape_at texts shape)) s ≡ Done (map (tokens_at new) args) t nothing → first ≡ slice_index_or args 0 []
-      → read_by (argument long (tokens_at texts delimiter)) s ≡ Done (tokens_at new first) t nothing
-  argument_done new args first t h e =
-      let o = one_done (read_by (argument long (tokens_at texts delimiter)) s) (map (tokens_at new) args) t (sym shape_one ∙ h) in
-      o.2 ∙ ap (λ a. Done a t nothing) (first_is new args first o.0 e o.1)
+  pub argument_done : (new : Held) (args : List (List TokenCode)) (first : List TokenCode) (f g : Outside) → Gets whole (Ok (map (tokens_at new.names) args)) old new f g → first ≡ slice_index_or args 0 [] → Gets alone (Ok (tokens_at new.names first)) old new f g
+  argument_done new args first f g d e =
+      gets_by alone (Ok (tokens_at new.names first)) old new f g
+      (λ told.
+      let o = one_done (alone (state_of f.shelf old)) (map (tokens_at new.names) args) (state_of g.shelf new) (sym (shape_one (state_of f.shelf old)) ∙ d.reads told) in
+      o.2 ∙ ap (λ a. Done a (state_of g.shelf new) nothing) (first_is new.names args first o.0 e o.1))
+      (runs_as (map (tokens_at new.names) args) (tokens_at new.names first) old new f g (gets_runs whole (Ok (map (tokens_at new.names) args)) old new f g d))
+
+  -- the argument is no longer than what was read for it
+  pub argument_shrinks : (new : Held) (args : List (List TokenCode)) (first : List TokenCode) (a b : Shelf) → MatchedBy shape args a old b new → first ≡ slice_index_or args 0 [] → Shrinks (length first) a old b new
+  argument_shrinks new args first a b m e =
+      let x = argument long (tokens_at old.names delimiter) m.list in
+      let o = one_yields (decided_by x) (map (tokens_at new.names) args) (sym (one_read long x) ∙ ap (λ (s : Shape TokenCode). decided_by (reading (shape_at old.names s) m.list)) (sym is) ∙ m.is) in
+      let le = yields_fits (length m.list) x o.0 (argument_fits long (tokens_at old.names delimiter) m.list) o.1 in
+      let n = ap length (first_is new.names args first o.0 e o.2) ∙ length-map first (token_at new.names) in
+      shrinks_less (length m.list) (length first) a b old new m.shrinks (omega (arith, le, n))

@@ -1,13 +1,15 @@
 -- How the answers of readings that go together are met.
 use Rattle.std.proofs.Common.{◌≡◌, ℕ, Bool, true, false, List, [], ◌∷◌, ◌++◌, Option, Some, None, Result, Ok, Err, refl, sym, ap, ◌∙◌, subst, arith, append_assoc, append-nil}
 use Rattle.std.specs.Option.{option_to_list}
+use Rattle.texml_base.specs.Outside.{Shelf}
 use Rattle.texml_watch.specs.declared.record.Record.{Record}
 use Rattle.texml_watch.specs.Telling.{AllHeard}
 use Rattle.texml_watch.proofs.Hearing.{AllHeard-append}
 use Rattle.texml_expand.specs.declared.stop.Stop.{Stop}
 use Rattle.texml_expand.specs.declared.stop.Stop.TheVariants as stop
 use Rattle.texml_expand.specs.State.{State, Gains, nothing, ◌⊕◌, Answer, Done, Ended, Unfinished, Reading, after, chain, added, tell}
-use Rattle.texml_expand.specs.Contract.{Silent, DecidesOn, Stops, ReadsBecause, TellsBecause, Outside, outside, stop_after}
+use Rattle.texml_expand.specs.Contract.{Silent, Quiet, DecidesOn, Stops, ReadsBecause, TellsBecause, Outside, outside, files_at, stop_after}
+use Rattle.texml_expand.specs.Held.{ok_at}
 use Rattle.texml_expand.specs.Hearing.{HearsIf, HearsPartIf, hears, hears_part, HeardLast, MeetsFirst, MeetsCut, MeetsPart, Meets, Follows}
 
 -- what is added
@@ -112,6 +114,17 @@ module _ {T : Type 0} (hear part : T → Record → T → Type 0) where
   meets_silent x (Err stop.TellFailed) s a h = absurd h
   meets_silent x (Err stop.NoMemory) s a h = part_untold x a
 
+  first_untold : {A : Type 0} (x : Answer A) (a : T) → MeetsFirst hear part x a a
+  first_untold x a = record { rows = []; more = (added x).records; is = refl; heard = refl }
+
+  pub meets_quiet : {A : Type 0} (x : Answer A) (r : Result A Stop) (s : State) (a : T) → Quiet x r s → Meets hear part x r s a a
+  meets_quiet x (Ok v) s a h = record { gains = nothing; is = h; heard = refl }
+  meets_quiet x (Err (stop.Tex n)) s a h = record { gains = nothing; is = h; heard = refl }
+  meets_quiet x (Err (stop.Limit n)) s a h = record { gains = nothing; is = h; heard = refl }
+  meets_quiet x (Err stop.ReadFailed) s a h = first_untold x a
+  meets_quiet x (Err stop.TellFailed) s a h = absurd h
+  meets_quiet x (Err stop.NoMemory) s a h = part_untold x a
+
   -- one record is told
   pub meets_told : (row : Record) (s : State) (a b : T) → hear a row b → Meets hear part (tell row s) (Ok tt) s a b
   meets_told row s a b h = record { gains = record { records = row ∷ [] }; is = refl; heard = (b, h, refl) }
@@ -136,35 +149,36 @@ hears_one wants heard row a b e h = subst (λ w. HearsIf w heard a row b) (sym e
 pub hears_some : {T : Type 0} (wants : T → Bool) (part : T → Record → T → Type 0) (row : Record) (a b : T) → wants a ≡ true → part a row b → hears_part wants part a row b
 hears_some wants part row a b e h = subst (λ w. HearsPartIf w part a row b) (sym e) h
 
--- a call that reads no file may be said with any count of theirs
-pub stops_unread : {A : Type 0} (r : Result A Stop) (reads tells tells' : ℕ) (kept : Option Stop) → Stops r (outside 0 tells) (outside 0 tells') kept → Stops r (outside reads tells) (outside reads tells') kept
-stops_unread r reads tells tells' kept h = record { kept = h.kept; reads = unread r h.reads; tells = h.tells }
+-- a call that tells nobody may be said with any count and loan of theirs
+pub stops_untold : {A : Type 0} (r : Result A Stop) (before now : Shelf) (reads reads' tells loan : ℕ) (kept : Option Stop) → Stops r (files_at before reads) (files_at now reads') kept
+    → Stops r (outside before reads tells loan) (outside now reads' tells loan) kept
+stops_untold r before now reads reads' tells loan kept h = record { kept = h.kept; reads = h.reads; tells = untold r h.tells; loan = refl }
   where
-    unread : {A : Type 0} (r : Result A Stop) → ReadsBecause r 0 0 → ReadsBecause r reads reads
-    unread (Ok v) b = refl
-    unread (Err (stop.Tex f)) b = refl
-    unread (Err (stop.Limit n)) b = refl
-    unread (Err stop.ReadFailed) b = absurd (omega (arith, b))
-    unread (Err stop.TellFailed) b = refl
-    unread (Err stop.NoMemory) b = refl
+    untold : {A : Type 0} (r : Result A Stop) → TellsBecause r 0 0 → TellsBecause r tells tells
+    untold (Ok v) b = refl
+    untold (Err (stop.Tex f)) b = refl
+    untold (Err (stop.Limit n)) b = refl
+    untold (Err stop.ReadFailed) b = refl
+    untold (Err stop.TellFailed) b = absurd (omega (arith, b))
+    untold (Err stop.NoMemory) b = refl
 
 -- one call behind another
-pub stops_then : {A B : Type 0} (v : A) (r : Result B Stop) (reads tells reads' tells' reads'' tells'' : ℕ) (k kept : Option Stop)
-    → Stops (Ok v) (outside reads tells) (outside reads' tells') k → Stops r (outside reads' tells') (outside reads'' tells'') kept → Stops r (outside reads tells) (outside reads'' tells'') kept
-stops_then v r reads tells reads' tells' reads'' tells'' k kept g h = record {
+pub stops_then : {A B : Type 0} (v : A) (r : Result B Stop) (a b c : Outside) (k kept : Option Stop) → Stops (Ok v) a b k → Stops r b c kept → Stops r a c kept
+stops_then v r a b c k kept g h = record {
   kept = h.kept;
-  reads = subst (λ n. ReadsBecause r n reads'') g.reads h.reads;
-  tells = subst (λ n. TellsBecause r n tells'') g.tells h.tells;
+  reads = subst (λ n. ReadsBecause r n c.read_faults) g.reads h.reads;
+  tells = subst (λ n. TellsBecause r n c.tell_faults) g.tells h.tells;
+  loan = h.loan ∙ g.loan;
 }
 
 -- who isn't asked doesn't fail
 pub stops_same : {A : Type 0} (r : Result A Stop) (n : Outside) (kept : Option Stop) → kept ≡ stop_after r → NothingFails r → Stops r n n kept
-stops_same (Ok v) n kept e h = record { kept = e; reads = refl; tells = refl }
-stops_same (Err (stop.Tex f)) n kept e h = record { kept = e; reads = refl; tells = refl }
-stops_same (Err (stop.Limit l)) n kept e h = record { kept = e; reads = refl; tells = refl }
+stops_same (Ok v) n kept e h = record { kept = e; reads = refl; tells = refl; loan = refl }
+stops_same (Err (stop.Tex f)) n kept e h = record { kept = e; reads = refl; tells = refl; loan = refl }
+stops_same (Err (stop.Limit l)) n kept e h = record { kept = e; reads = refl; tells = refl; loan = refl }
 stops_same (Err stop.ReadFailed) n kept e h = absurd h
 stops_same (Err stop.TellFailed) n kept e h = absurd h
-stops_same (Err stop.NoMemory) n kept e h = record { kept = e; reads = refl; tells = refl }
+stops_same (Err stop.NoMemory) n kept e h = record { kept = e; reads = refl; tells = refl; loan = refl }
 
 pub silent_fails_not : {A : Type 0} (a : Answer A) (r : Result A Stop) (s : State) → Silent a r s → NothingFails r
 silent_fails_not a (Ok v) s h = tt
@@ -173,3 +187,26 @@ silent_fails_not a (Err (stop.Limit l)) s h = tt
 silent_fails_not a (Err stop.ReadFailed) s h = h
 silent_fails_not a (Err stop.TellFailed) s h = h
 silent_fails_not a (Err stop.NoMemory) s h = tt
+
+-- a stop is the same of any answer
+reads_as : (A B : Type 0) (e : Stop) (x y : ℕ) → ReadsBecause {A = A} (Err e) x y → ReadsBecause {A = B} (Err e) x y
+reads_as A B (stop.Tex f) x y h = h
+reads_as A B (stop.Limit n) x y h = h
+reads_as A B stop.ReadFailed x y h = h
+reads_as A B stop.TellFailed x y h = h
+reads_as A B stop.NoMemory x y h = h
+
+tells_as : (A B : Type 0) (e : Stop) (x y : ℕ) → TellsBecause {A = A} (Err e) x y → TellsBecause {A = B} (Err e) x y
+tells_as A B (stop.Tex f) x y h = h
+tells_as A B (stop.Limit n) x y h = h
+tells_as A B stop.ReadFailed x y h = h
+tells_as A B stop.TellFailed x y h = h
+tells_as A B stop.NoMemory x y h = h
+
+pub stops_as : (A B : Type 0) (e : Stop) (x y : Outside) (k : Option Stop) → Stops {A = A} (Err e) x y k → Stops {A = B} (Err e) x y k
+stops_as A B e x y k h = record { kept = h.kept; reads = reads_as A B e _ _ h.reads; tells = tells_as A B e _ _ h.tells; loan = h.loan }
+
+-- the value of a call doesn't matter for its stop
+pub stops_of : {A B : Type 0} (at : A → B) (r : Result A Stop) (x y : Outside) (k : Option Stop) → Stops (ok_at at r) x y k → Stops r x y k
+stops_of at (Ok v) x y k h = record { kept = h.kept; reads = h.reads; tells = h.tells; loan = h.loan }
+stops_of {A = A} {B = B} at (Err e) x y k h = stops_as B A e x y k h

@@ -1,12 +1,18 @@
 -- What is fetched and expanded, as it is said outside, is lawful.
-use Rattle.std.proofs.Common.{Option, Some, None}
+use Rattle.std.proofs.Common.{Bool, true, false, List, [], length, Option, Some, None}
 use Rattle.std.specs.Option.{option_map}
 use Rattle.texml_token.specs.Token.{Token}
+use Rattle.texml_expand.specs.declared.gathering.Gathering.TheVariants.{Group}
 use Rattle.texml_expand.specs.Take.{meaning_of}
+use Rattle.texml_expand.specs.Least.{by_least}
+use Rattle.texml_expand.specs.Braces.{absorbed}
 use Rattle.texml_expand.specs.Calls.{Expandable, expandable}
 use Rattle.texml_expand.specs.Quantities.{Looked, expanded}
 use Rattle.texml_expand.specs.Expand.{counted, fetched, expand_as, expand_token}
-use Rattle.texml_expand.proofs.Lawful.{By, Lawful, lawful_give, lawful_by, lawful_then, lawful_expand}
+use Rattle.texml_expand.specs.Contract.{Lower}
+use Rattle.texml_expand.proofs.Leading.{leads_weaker, lower_less}
+use Rattle.texml_expand.proofs.Least.{Decides, by_least_leads, by_least_decided}
+use Rattle.texml_expand.proofs.Lawful.{By, Lawful, lawful_silent, lawful_give, lawful_by, lawful_then, lawful_expand, lawful_gather}
 use Rattle.texml_expand.proofs.Looking.{lawful_expanded}
 
 abbrev pub as_counted : Option Looked → By (Option Token)
@@ -24,3 +30,13 @@ lawful_expand_as t (Some e) = lawful_expand t e
 
 pub lawful_expand_token : (t : Token) → Lawful (λ c. expand_token c t)
 lawful_expand_token t = lawful_by (λ s. expandable (meaning_of s.world t)) (λ e c. expand_as c t e) (lawful_expand_as t)
+
+-- the tokens of a group, as they stand or expanded
+abbrev pub absorbing : Bool → By (List Token)
+absorbing false c = by_least absorbed
+absorbing true c = c.gather Group []
+
+pub lawful_absorbing : (expanding : Bool) → Lawful (absorbing expanding)
+lawful_absorbing false =
+    lawful_silent (by_least absorbed) (by_least_decided absorbed) (λ s. leads_weaker (Decides absorbed s) (λ v t. Lower 0 s t) (by_least absorbed s) (λ v t d. lower_less (length d.list) s t d.lower) (by_least_leads absorbed s))
+lawful_absorbing true = lawful_gather Group

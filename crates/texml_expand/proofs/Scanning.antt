@@ -4,6 +4,7 @@ use Rattle.std.specs.List.{All}
 use Rattle.std.specs.Result.{MatchResult}
 use Rattle.std.proofs.lemmas.List.{drop-map, length-map, length-drop, take_all}
 use Rattle.std.proofs.lemmas.List.Elements.{All-map}
+use Rattle.texml_base.specs.Outside.{Shelf}
 use Rattle.texml_token.specs.Token.{Token}
 use Rattle.texml_token.specs.declared.tokens.Token.{Token as TokenCode}
 use Rattle.texml_token.specs.Numbers.{Table, token_at, tokens_at, TokenWithin, TokensWithin}
@@ -17,7 +18,7 @@ use Rattle.texml_scan.specs.Grammar.{Verdict, Decided}
 use Rattle.texml_expand.specs.Quantities.{decided_on}
 use Rattle.texml_expand.specs.Scanning.{seen_at, all_seen_at, SeenWithin}
 use Rattle.texml_expand.specs.Held.{Held, state_of}
-use Rattle.texml_expand.specs.Contract.{Silent}
+use Rattle.texml_expand.specs.Contract.{Silent, Local}
 
 abbrev pub codes_of : List SeenCode → List TokenCode
 codes_of = map (λ x. x.token)
@@ -33,9 +34,10 @@ pub codes_within : (count : ℕ) (seen : List SeenCode) → All (SeenWithin coun
 codes_within count seen h = All-map (TokenWithin count) (λ (x : SeenCode). x.token) seen h
 
 -- tokens are put back
-pub silent_put : (s : State) (list : List Token) (new : Held) (r : Result (Unit {0}) Stop) (P : Stop → Type 0) → MatchResult r (λ _. state_of new ≡ put list s) (λ st. (st ≡ stop.NoMemory) × P st) → Silent (change (put list) s) r (state_of new)
-silent_put s list new (Ok v) P h = ap (λ t. Done tt t nothing) (sym h)
-silent_put s list new (Err e) P h = subst (λ (st : Stop). Silent (change (put list) s) (Err st) (state_of new)) (sym h.0) tt
+pub local_put : (old new : Held) (list : List Token) (r : Result (Unit {0}) Stop) (P : Stop → Type 0) → MatchResult r (λ _. (shelf : Shelf) → state_of shelf new ≡ put list (state_of shelf old)) (λ st. (st ≡ stop.NoMemory) × P st)
+    → Local (change (put list)) r old new
+local_put old new list (Ok v) P h = λ shelf. ap (λ t. Done tt t nothing) (sym (h shelf))
+local_put old new list (Err e) P h = λ shelf. subst (λ (st : Stop). Silent (change (put list) (state_of shelf old)) (Err st) (state_of shelf new)) (sym h.0) tt
 
 -- the last ones that were looked at
 pub last_seen : (texts : Table) (seen : List SeenCode) (from n : ℕ) → from ≡ length seen - n → tokens_of (all_seen_at texts (drop from seen)) ≡ tokens_of (drop (length (all_seen_at texts seen) - n) (all_seen_at texts seen))

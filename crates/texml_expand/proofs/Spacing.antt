@@ -1,17 +1,18 @@
 -- Spaces that are taken, one after the other.
-use Rattle.std.proofs.Common.{◌≡◌, ◌+◌, ◌≤◌, ℕ, zero, suc, Bool, true, false, ◌||◌, if◌then◌else◌, append-nil, Option, Some, None, Err, refl, sym, ap, ◌∙◌, arith}
+use Rattle.std.proofs.Common.{◌≡◌, ◌+◌, ◌≤◌, ℕ, zero, suc, Bool, true, false, ◌||◌, if◌then◌else◌, append-nil, IsTrue, Option, Some, None, Result, Ok, Err, refl, sym, ap, ◌∙◌, subst, arith}
 use Rattle.texml_expand.specs.declared.stop.Stop.{Stop}
 use Rattle.texml_expand.specs.declared.stop.Stop.TheVariants as stop
-use Rattle.texml_expand.specs.Next.{Taken}
+use Rattle.texml_input.specs.Next.{Taken}
 use Rattle.texml_expand.specs.State.{State, End, Tex, Limit, room, nothing, Answer, Done, Ended, Unfinished, Reading, after, chain, give}
 use Rattle.texml_expand.specs.Take.{take}
 use Rattle.texml_expand.specs.Arguments.{is_space, past_space, past_spaces, behind_spaces}
-use Rattle.texml_expand.specs.Held.{Held, state_of, Sound, Kept, Progress}
-use Rattle.texml_expand.specs.Contract.{Silent}
+use Rattle.texml_expand.specs.Held.{Held, world_in, state_of, Sound, Owns, Shrinks}
+use Rattle.texml_expand.specs.Contract.{Quiet, Outside}
+use Rattle.texml_expand.specs.Doing.{Gets, Runs}
 use Rattle.texml_expand.proofs.Leading.{Leads, leads_at, count}
 use Rattle.texml_expand.proofs.Deciding.{after_nothing}
-use Rattle.texml_expand.proofs.Progress.{progress_itself, progress_then}
-use Rattle.texml_expand.proofs.Fronts.{kept_then, kept_itself}
+use Rattle.texml_expand.proofs.Running.{told_on, shrinks_none, shrinks_then, runs_then, runs_as, runs_now, runs_out, gets_runs}
+use Rattle.texml_expand.proofs.Getting.{gets_by}
 use Rattle.texml_expand.proofs.Least.{Takes, take_takes, takes_room}
 
 pub or_right : (a b c : Bool) → a ≡ false → b ≡ c → b ≡ (a || c)
@@ -68,33 +69,52 @@ pub take_smaller : (s t : State) (x : Taken) → take s ≡ Done (Some x) t noth
 take_smaller s t x e = let g : Takes 1 s t = leads_at (λ o u. Takes (count o) s u) (take s) (Some x) t nothing e (take_takes s) in g.lower.size g.begun
 
 -- an engine that passes over spaces
-pub record Spacing (old now : Held) : Type 0 where
+pub record Spacing (old : Held) (f : Outside) (now : Held) (g : Outside) : Type 0 where
   pub running : now.stop ≡ None
-  pub kept : Kept old now
-  pub progress : Progress old now
-  pub same : behind_spaces (state_of old) ≡ behind_spaces (state_of now)
+  pub sound : Sound now
+  pub owns : Owns g.shelf now
+  pub runs : Runs {A = Unit {0}} (Ok tt) old now f g
+  pub lower : Shrinks 0 f.shelf old g.shelf now
+  pub same : IsTrue f.shelf.tells → behind_spaces (state_of f.shelf old) ≡ behind_spaces (state_of g.shelf now)
 
-pub spacing_none : (h : Held) → h.stop ≡ None → Sound h → Spacing h h
-spacing_none h running sound = record { running = running; kept = kept_itself h sound; progress = progress_itself h; same = refl }
+pub spacing_none : (h : Held) (f : Outside) → h.stop ≡ None → Sound h → Owns f.shelf h → Spacing h f h f
+spacing_none h f running sound owns = record { running = running; sound = sound; owns = owns; runs = runs_now tt h f sound running owns; lower = shrinks_none f.shelf h; same = λ told. refl }
 
-pub spacing_on : (old now new : Held) (x : Taken) → Spacing old now → take (state_of now) ≡ Done (Some x) (state_of new) nothing → is_space (state_of new).world x.token ≡ true → new.stop ≡ None → Kept now new → Progress now new
-    → Spacing old new
-spacing_on old now new x f e b running kept on = record {
-  running = running;
-  kept = kept_then old now new f.kept kept;
-  progress = progress_then old now new f.progress on;
-  same = f.same ∙ space_on (state_of now) (state_of new) x e b;
-}
+module _ (old now new : Held) (f g h : Outside) (i : Spacing old f now g) where
+  on : IsTrue f.shelf.tells → IsTrue g.shelf.tells
+  on told = told_on f.shelf g.shelf old now i.runs.holds told
 
-pub spacing_ends : (old now : Held) (t : State) → Spacing old now → take (state_of now) ≡ Done None t nothing → behind_spaces (state_of old) ≡ Done None t nothing
-spacing_ends old now t f e = f.same ∙ past_none (room (state_of now)) (state_of now) t e
+  pub spacing_on : (x : Taken) → Gets take (Ok (Some x)) now new g h → is_space (world_in new) x.token ≡ true → Shrinks 1 g.shelf now h.shelf new → Spacing old f new h
+  spacing_on x d b low = record {
+    running = d.stops.kept;
+    sound = d.keeps.sound;
+    owns = d.holds.owns;
+    runs = runs_then tt (Ok tt) old now new f g h i.runs (runs_as (Some x) tt now new g h (gets_runs take (Ok (Some x)) now new g h d));
+    lower = shrinks_then 0 1 0 f.shelf g.shelf h.shelf old now new i.lower low (omega arith);
+    same = λ told. i.same told ∙ space_on (state_of g.shelf now) (state_of h.shelf new) x (d.reads (on told)) b;
+  }
 
-pub spacing_found : (old now : Held) (t : State) (x : Taken) → Spacing old now → take (state_of now) ≡ Done (Some x) t nothing → is_space t.world x.token ≡ false → behind_spaces (state_of old) ≡ Done (Some x) t nothing
-spacing_found old now t x f e b = f.same ∙ past_other (room (state_of now)) (state_of now) t x e b
+  spaced : (r : Result (Option Taken) Stop) → Runs r now new g h → (IsTrue g.shelf.tells → Quiet (behind_spaces (state_of g.shelf now)) r (state_of h.shelf new)) → Gets behind_spaces r old new f h
+  spaced r d q = gets_by behind_spaces r old new f h (λ told. subst (λ a. Quiet a r (state_of h.shelf new)) (sym (i.same told)) (q (on told))) (runs_then tt r old now new f g h i.runs d)
 
-pub spacing_stops : (old now : Held) (e : Stop) (t u : State) → Spacing old now → Silent (take (state_of now)) (Err e) t → Silent (behind_spaces (state_of old)) (Err e) u
-spacing_stops old now (stop.Tex x) t u f h = f.same ∙ past_end (room (state_of now)) (state_of now) (Tex x) h
-spacing_stops old now (stop.Limit n) t u f h = f.same ∙ past_end (room (state_of now)) (state_of now) (Limit n) h
-spacing_stops old now stop.ReadFailed t u f h = absurd h
-spacing_stops old now stop.TellFailed t u f h = absurd h
-spacing_stops old now stop.NoMemory t u f h = tt
+  pub spacing_ends : Gets take (Ok None) now new g h → Gets behind_spaces (Ok None) old new f h
+  spacing_ends d = spaced (Ok None) (gets_runs take (Ok None) now new g h d) (λ told. past_none (room (state_of g.shelf now)) (state_of g.shelf now) (state_of h.shelf new) (d.reads told))
+
+  pub spacing_found : (x : Taken) → Gets take (Ok (Some x)) now new g h → is_space (world_in new) x.token ≡ false → Gets behind_spaces (Ok (Some x)) old new f h
+  spacing_found x d b = spaced (Ok (Some x)) (gets_runs take (Ok (Some x)) now new g h d) (λ told. past_other (room (state_of g.shelf now)) (state_of g.shelf now) (state_of h.shelf new) x (d.reads told) b)
+
+  spaces_stop : (e : Stop) (s u v : State) → Quiet (take s) (Err e) u → Quiet (behind_spaces s) (Err e) v
+  spaces_stop (stop.Tex x) s u v q = past_end (room s) s (Tex x) q
+  spaces_stop (stop.Limit n) s u v q = past_end (room s) s (Limit n) q
+  spaces_stop stop.ReadFailed s u v q = tt
+  spaces_stop stop.TellFailed s u v q = absurd q
+  spaces_stop stop.NoMemory s u v q = tt
+
+  pub spacing_stops : (e : Stop) → Gets take (Err e) now new g h → Gets behind_spaces (Err e) old new f h
+  spacing_stops e d = spaced (Err e) (gets_runs take (Err e) now new g h d) (λ told. spaces_stop e (state_of g.shelf now) (state_of h.shelf new) (state_of h.shelf new) (d.reads told))
+
+-- what a token means can't be told
+pub spacing_out : (e : Stop) (x : Taken) (old now mid new : Held) (f g h : Outside) → Spacing old f now g → Gets take (Ok (Some x)) now mid g h → e ≡ stop.NoMemory → new ≡ record mid { stop = Some stop.NoMemory } → Gets behind_spaces (Err e) old new f h
+spacing_out e x old now mid new f g h i d short is =
+    gets_by behind_spaces (Err e) old new f h (λ told. subst (λ (s : Stop). Quiet (behind_spaces (state_of f.shelf old)) (Err s) (state_of h.shelf new)) (sym short) tt)
+    (runs_then tt (Err e) old now new f g h i.runs (runs_then (Some x) (Err e) now mid new g h h (gets_runs take (Ok (Some x)) now mid g h d) (runs_out e mid new h short is d.holds.owns)))

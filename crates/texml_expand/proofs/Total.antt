@@ -3,14 +3,15 @@ use Rattle.std.proofs.Common.{◌≡◌, ℕ, zero, suc, List, sym, ◌∙◌, s
 use Rattle.texml_token.specs.Token.{Token}
 use Rattle.texml_scan.specs.Grammar.{Remainder}
 use Rattle.texml_expand.specs.State.{State, Answer, IsDecided}
-use Rattle.texml_expand.specs.Calls.{Expandable, Seen, Calls}
+use Rattle.texml_expand.specs.Calls.{Expandable, Gathering, Seen, Calls}
+use Rattle.texml_expand.specs.Gathering.{gather_by, copy_by}
 use Rattle.texml_expand.specs.Quantities.{scan_by}
 use Rattle.texml_expand.specs.Expand.{expand_by, fetch_by, level}
 use Rattle.texml_expand.specs.Contract.{DecidesOn, Lower}
 use Rattle.texml_expand.proofs.Leading.{Leads}
 use Rattle.texml_expand.proofs.Readings.{Mono, Settles, agree}
 use Rattle.texml_expand.proofs.Lawful.{By, GrowsCalls, CallsFall, Lawful, lawful_mono}
-use Rattle.texml_expand.proofs.Levels.{levels, expand_grows, fetch_grows, scan_grows}
+use Rattle.texml_expand.proofs.Levels.{levels, expand_grows, fetch_grows, scan_grows, gather_grows, copy_grows}
 use Rattle.texml_expand.proofs.Settle.{settles}
 
 pub total : Calls
@@ -18,6 +19,8 @@ total = record {
   fetch = λ s. (level (settles s).fetch.at).fetch s;
   expand = λ t e s. (level ((settles s).expand t e).at).expand t e s;
   scan = λ r seen s. (level ((settles s).scan r seen).at).scan r seen s;
+  gather = λ k seen s. (level ((settles s).gather k seen).at).gather k seen s;
+  copy = λ t s. (level ((settles s).copy t).at).copy t s;
 }
 
 fetch_mono : (s : State) → Mono (λ n. (level n).fetch s)
@@ -29,12 +32,20 @@ expand_mono t e s = record { grows = λ n m le. (levels.grow n m le).expand t e 
 scan_mono : {V : Type 0} (r : Remainder V) (seen : List Seen) (s : State) → Mono (λ n. (level n).scan r seen s)
 scan_mono r seen s = record { grows = λ n m le. (levels.grow n m le).scan r seen s }
 
+gather_mono : (k : Gathering) (seen : List Token) (s : State) → Mono (λ n. (level n).gather k seen s)
+gather_mono k seen s = record { grows = λ n m le. (levels.grow n m le).gather k seen s }
+
+copy_mono : (t : Token) (s : State) → Mono (λ n. (level n).copy t s)
+copy_mono t s = record { grows = λ n m le. (levels.grow n m le).copy t s }
+
 pub level_total : (n : ℕ) → GrowsCalls (level n) total
 unfolding total
 level_total n = record {
   fetch = λ s. record { same = λ d. let h = (settles s).fetch in agree (λ n. (level n).fetch s) (fetch_mono s) h.at n h.decided d };
   expand = λ t e s. record { same = λ d. let h = (settles s).expand t e in agree (λ n. (level n).expand t e s) (expand_mono t e s) h.at n h.decided d };
   scan = λ r seen s. record { same = λ d. let h = (settles s).scan r seen in agree (λ n. (level n).scan r seen s) (scan_mono r seen s) h.at n h.decided d };
+  gather = λ k seen s. record { same = λ d. let h = (settles s).gather k seen in agree (λ n. (level n).gather k seen s) (gather_mono k seen s) h.at n h.decided d };
+  copy = λ t s. record { same = λ d. let h = (settles s).copy t in agree (λ n. (level n).copy t s) (copy_mono t s) h.at n h.decided d };
 }
 
 -- each call is its own step
@@ -63,12 +74,30 @@ pub scan_is : {V : Type 0} (r : Remainder V) (seen : List Seen) (s : State) → 
 unfolding total
 scan_is r seen s = let h = (settles s).scan r seen in scan_at h.at r seen s h.decided
 
+gather_at : (n : ℕ) (k : Gathering) (seen : List Token) (s : State) → IsDecided ((level n).gather k seen s) → (level n).gather k seen s ≡ gather_by total k seen s
+gather_at zero k seen s d = absurd d
+gather_at (suc n) k seen s d = sym ((gather_grows (level n) total (level_total n) k seen s).same d)
+
+pub gather_is : (k : Gathering) (seen : List Token) (s : State) → total.gather k seen s ≡ gather_by total k seen s
+unfolding total
+gather_is k seen s = let h = (settles s).gather k seen in gather_at h.at k seen s h.decided
+
+copy_at : (n : ℕ) (t : Token) (s : State) → IsDecided ((level n).copy t s) → (level n).copy t s ≡ copy_by total t s
+copy_at zero t s d = absurd d
+copy_at (suc n) t s d = sym ((copy_grows (level n) total (level_total n) t s).same d)
+
+pub copy_is : (t : Token) (s : State) → total.copy t s ≡ copy_by total t s
+unfolding total
+copy_is t s = let h = (settles s).copy t in copy_at h.at t s h.decided
+
 pub total_falls : CallsFall total
 unfolding total
 total_falls = record {
   fetch = λ s. (levels.fall (settles s).fetch.at).fetch s;
   expand = λ t e s. (levels.fall ((settles s).expand t e).at).expand t e s;
   scan = λ r seen s. (levels.fall ((settles s).scan r seen).at).scan r seen s;
+  gather = λ k seen s. (levels.fall ((settles s).gather k seen).at).gather k seen s;
+  copy = λ t s. (levels.fall ((settles s).copy t).at).copy t s;
 }
 
 -- what some depth gives is the answer, and the answer is what some depth gives

@@ -20,10 +20,12 @@ use Rattle.texml_expand.specs.Expand.{level}
 use Rattle.texml_expand.specs.declared.machine.Value.TheVariants as worths
 use Rattle.texml_expand.specs.Machine.{mapped}
 use Rattle.texml_expand.specs.Held.{Held, state_of}
-use Rattle.texml_expand.specs.Contract.{outside}
+use Rattle.texml_expand.specs.Contract.{Outside}
 use Rattle.texml_expand.specs.Hearing.{MeetsFirst, MeetsCut, MeetsPart, MeetsEnd, Meets, Follows}
 use Rattle.texml_expand.specs.Doing.{Does}
-use Rattle.texml_expand.proofs.Doing.{stops_as, limit_as}
+use Rattle.texml_expand.specs.Scanning.{MayGive}
+use Rattle.texml_expand.proofs.Meeting.{stops_as}
+use Rattle.texml_expand.proofs.Running.{limit_as}
 
 -- an answer on other values
 abbrev pub answered : {V W : Type 0} → (V → W) → Answer V → Answer W
@@ -177,29 +179,48 @@ module _ {T : Type 0} (hear part : T → Record → T → Type 0) {V W : Type 0}
 
   -- what a scanner of the code reads, on the values themselves
   module _ (g : Remainder W) (r : Remainder V) (same : (xs : List Look) → g xs ≡ mapped f (r xs)) where
-    pub scan_stop : (e : Stop) (old new : Held) (i j : ℕ) (x y : T) → Does hear part (λ n. (level n).scan g []) (Err e) old new i j x y → Does hear part (λ n. (level n).scan r []) (Err e) old new i j x y
+    pub scan_stop : (e : Stop) (old new : Held) (i j : Outside) (x y : T) → Does hear part (λ n. (level n).scan g []) (Err e) old new i j x y → Does hear part (λ n. (level n).scan r []) (Err e) old new i j x y
     scan_stop e old new i j x y d = record {
-      follows = follows_stop (λ n. (level n).scan g [] (state_of old)) (λ n. (level n).scan r [] (state_of old)) (λ n. scan_same f g r same n [] (state_of old)) e (state_of new) x y d.follows;
-      stops = stops_as W V e (outside 0 i) (outside 0 j) new.stop d.stops;
+      follows = λ told.
+          let s = state_of i.shelf old in
+          follows_stop (λ n. (level n).scan g [] s) (λ n. (level n).scan r [] s) (λ n. scan_same f g r same n [] s) e (state_of j.shelf new) x y (d.follows told);
+      stops = stops_as W V e i j new.stop d.stops;
       limit = limit_as W V e new d.limit;
       keeps = tt;
       progress = d.progress;
+      holds = d.holds;
     }
 
-    pub record Scanned (w : W) (old new : Held) (i j : ℕ) (x y : T) : Type 0 where
-      pub value : V
-      pub is : w ≡ f value
-      pub does : Does hear part (λ n. (level n).scan r []) (Ok value) old new i j x y
+    pub scan_of : (v : V) (w : W) (old new : Held) (i j : Outside) (x y : T) → w ≡ f v → ((a b : V) → f a ≡ f b → a ≡ b) → Does hear part (λ n. (level n).scan g []) (Ok w) old new i j x y → Does hear part (λ n. (level n).scan r []) (Ok v) old new i j x y
+    scan_of v w old new i j x y e one d = record {
+      follows = λ told.
+          let s = state_of i.shelf old in
+          let k = follows_value (λ n. (level n).scan g [] s) (λ n. (level n).scan r [] s) (λ n. scan_same f g r same n [] s) w (state_of j.shelf new) x y (d.follows told) in
+          subst (λ z. Follows hear part (λ n. (level n).scan r [] s) (Ok z) (state_of j.shelf new) x y) (one k.value v (sym k.is ∙ e)) k.follows;
+      stops = record { kept = d.stops.kept; reads = d.stops.reads; tells = d.stops.tells; loan = d.stops.loan };
+      limit = tt;
+      keeps = d.keeps;
+      progress = d.progress;
+      holds = d.holds;
+    }
 
-    pub scan_value : (w : W) (old new : Held) (i j : ℕ) (x y : T) → Does hear part (λ n. (level n).scan g []) (Ok w) old new i j x y → Scanned w old new i j x y
-    scan_value w old new i j x y d =
-        let v = follows_value (λ n. (level n).scan g [] (state_of old)) (λ n. (level n).scan r [] (state_of old)) (λ n. scan_same f g r same n [] (state_of old)) w (state_of new) x y d.follows in
-        record { value = v.value; is = v.is; does = record { follows = v.follows; stops = record { kept = d.stops.kept; reads = d.stops.reads; tells = d.stops.tells }; limit = tt; keeps = d.keeps; progress = d.progress } }
+-- a scanner of the code decides on such values alone
+module _ {V W : Type 0} (f : V → W) (g : Remainder W) (r : Remainder V) (same : (xs : List Look) → g xs ≡ mapped f (r xs)) where
+  pub record ScanGives (w : W) : Type 0 where
+    pub value : V
+    pub is : w ≡ f value
+    pub gives : MayGive r value
 
-    pub scan_of : (v : V) (w : W) (old new : Held) (i j : ℕ) (x y : T) → w ≡ f v → ((a b : V) → f a ≡ f b → a ≡ b) → Does hear part (λ n. (level n).scan g []) (Ok w) old new i j x y → Does hear part (λ n. (level n).scan r []) (Ok v) old new i j x y
-    scan_of v w old new i j x y e same d =
-        let k = scan_value w old new i j x y d in
-        subst (λ z. Does hear part (λ n. (level n).scan r []) (Ok z) old new i j x y) (same k.value v (sym k.is ∙ e)) k.does
+  verdict_gives : (xs : List Look) (v : Verdict V) (w : W) (n : ℕ) → r xs ≡ v → mapped f v ≡ Decided w n → ScanGives w
+  verdict_gives xs (Wanting x) w n e h = cc
+  verdict_gives xs (Decided v m) w n e h = record { value = v; is = cc; gives = record { looks = xs; back = m; is = e } }
+  verdict_gives xs (Faulty x) w n e h = cc
+
+  pub scan_gives : (w : W) → MayGive g w → ScanGives w
+  scan_gives w m = verdict_gives m.looks (r m.looks) w m.back refl (sym (same m.looks) ∙ m.is)
+
+  pub gives_of : (v : V) (w : W) → w ≡ f v → ((a b : V) → f a ≡ f b → a ≡ b) → MayGive g w → MayGive r v
+  gives_of v w e one m = let k = scan_gives w m in subst (MayGive r) (one k.value v (sym k.is ∙ e)) k.gives
 
 -- the code's values are told apart
 pub int_same : (a b : ℤ) → worths.Int a ≡ worths.Int b → a ≡ b

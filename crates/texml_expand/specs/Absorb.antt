@@ -1,21 +1,12 @@
--- The tokens of a group in braces, unexpanded (The TeXbook, chapter 20).
-use Rattle.std.specs.Prelude.{◌+◌, ◌-◌, ◌==◌, Bool, List, length, take, if◌then◌else◌}
-use Rattle.std.specs.List.{count_by}
-use Rattle.texml_token.specs.Token.{Token, has_category}
-use Rattle.texml_token.specs.declared.category.TheConstants.{BEGIN_GROUP, END_GROUP}
-use Rattle.texml_expand.specs.declared.feeding.Verdict.{Verdict}
-use Rattle.texml_expand.specs.declared.feeding.Verdict.TheVariants.{TooShort, Yields}
-use Rattle.texml_expand.specs.State.{Reading}
+-- The tokens of a group in braces, as they stand or expanded (The TeXbook, chapter 20).
+use Rattle.std.specs.Prelude.{Bool, true, false, List, []}
+use Rattle.texml_token.specs.Token.{Token}
+use Rattle.texml_expand.specs.declared.gathering.Gathering.TheVariants.{Group}
 use Rattle.texml_expand.specs.Least.{by_least}
+pub use Rattle.texml_expand.specs.Braces.{closes, absorbed}
+use Rattle.texml_expand.specs.Expand.{level, ByDepth}
 
--- behind a begun group: one more group was ended in these tokens than begun
-abbrev pub closes : List Token → Bool
-closes list = count_by (has_category END_GROUP) list == count_by (has_category BEGIN_GROUP) list + 1
-
--- the tokens before the last one, where that closes the group
-abbrev pub absorbed : List Token → Verdict (List Token)
-absorbed list = if closes list then Yields (take (length list - 1) list) else TooShort
-
--- the tokens up to the brace that closes the group
-abbrev pub absorb : Reading (List Token)
-absorb = by_least absorbed
+-- the tokens up to the brace that closes the group; where they are expanded, what \the gives of a list of tokens is taken as it is
+abbrev pub absorb : Bool → ByDepth (List Token)
+absorb false n = by_least absorbed
+absorb true n = (level n).gather Group []

@@ -12,7 +12,7 @@ use Rattle.texml_match.specs.Shape.{shape_of}
 use Rattle.texml_match.specs.Arguments.{argument, reading}
 use Rattle.texml_expand.specs.declared.feeding.Verdict.{Verdict}
 use Rattle.texml_expand.specs.declared.feeding.Verdict.TheVariants.{TooShort, Yields, Refuses}
-use Rattle.texml_expand.specs.Next.{Taken}
+use Rattle.texml_input.specs.Next.{Taken}
 use Rattle.texml_expand.specs.State.{room, Reading, ◌>>=◌, ◌>>◌, give, change}
 use Rattle.texml_expand.specs.Take.{take, back, means}
 use Rattle.texml_expand.specs.Least.{by_least}

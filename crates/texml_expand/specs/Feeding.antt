@@ -1,6 +1,7 @@
 -- What the code decides by the tokens that it is fed, one after the other.
-use Rattle.std.specs.Prelude.{◌≡◌, ◌<◌, ◌-◌, ◌+◌, ℕ, List, [], ◌∷◌, length, take, if◌then◌else◌, Result, Ok, Err}
+use Rattle.std.specs.Prelude.{◌≡◌, ◌<◌, ◌-◌, ◌+◌, ℕ, List, [], ◌∷◌, length, take, if◌then◌else◌, IsTrue, Result, Ok, Err}
 use Rattle.std.specs.List.{count_by}
+use Rattle.texml_base.specs.Outside.{Shelf}
 use Rattle.texml_token.specs.Token.{Token, has_category}
 use Rattle.texml_token.specs.declared.category.TheConstants.{BEGIN_GROUP, END_GROUP}
 use Rattle.texml_token.specs.Numbers.{Table, Numbered, tokens_at, TokensWithin}
@@ -11,7 +12,7 @@ use Rattle.texml_expand.specs.declared.stop.Stop.TheVariants as stop
 use Rattle.texml_expand.specs.declared.feeding.Verdict.{Verdict}
 use Rattle.texml_expand.specs.declared.feeding.Verdict.TheVariants.{TooShort, Yields, Refuses}
 use Rattle.texml_expand.specs.State.{State, End, Tex, Limit, nothing, Done, Ended, fault_at}
-use Rattle.texml_expand.specs.Held.{Held, state_of}
+use Rattle.texml_expand.specs.Held.{Held, Shrinks}
 use Rattle.texml_expand.specs.Least.{inner_token, next_tokens}
 use Rattle.texml_expand.specs.Absorb.{closes}
 
@@ -58,14 +59,25 @@ module _ {V : Type 0} (judge : Judge V) (old : State) where
     Refused : (texts : Table) (now : State) (code : ℕ) → Settled texts now (Refuses code) → fault ≡ fault_at code [] now.place → EndsWith fault
     Cut : CutShort (Tex fault) → EndsWith fault
 
-  -- what feeding answers
-  abbrev pub Feeds : Result V Stop → Held → Type 0
-  Feeds (Ok v) new = Settled new.names (state_of new) (Yields v)
-  Feeds (Err (stop.Tex f)) new = EndsWith f
-  Feeds (Err (stop.Limit n)) new = CutShort (Limit n)
-  Feeds (Err stop.ReadFailed) new = ⊥
-  Feeds (Err stop.TellFailed) new = ⊥
-  Feeds (Err stop.NoMemory) new = Unit {0}
+  -- what feeding answers: the table and the state behind it
+  abbrev pub Feeds : Result V Stop → Table → State → Type 0
+  Feeds (Ok v) texts now = Settled texts now (Yields v)
+  Feeds (Err (stop.Tex f)) texts now = EndsWith f
+  Feeds (Err (stop.Limit n)) texts now = CutShort (Limit n)
+  Feeds (Err stop.ReadFailed) texts now = Unit {0}
+  Feeds (Err stop.TellFailed) texts now = ⊥
+  Feeds (Err stop.NoMemory) texts now = Unit {0}
+
+  -- the same, if the files tell what they have
+  abbrev pub FeedsTold : Shelf → Result V Stop → Table → State → Type 0
+  FeedsTold before result texts now = IsTrue before.tells → Feeds result texts now
+
+-- tokens were fed that decide on a value, and less is left to read by each of them
+pub record FedBy {V : Type 0} (judge : Judge V) (value : V) (before : Shelf) (old : Held) (now : Shelf) (new : Held) : Type 0 where
+  pub list : List TokenCode
+  pub within : TokensWithin (length new.names) list
+  pub is : judge new.names list ≡ Yields value
+  pub shrinks : Shrinks (length list) before old now new
 
 -- the tokens before the last one, where that closes the group that has begun
 abbrev pub judge_group : Judge (List TokenCode)

@@ -1,6 +1,7 @@
 -- What a call of the engine does where it may tell of expansions, by a definition's answer.
-use Rattle.std.specs.Prelude.{◌≡◌, ℕ, Bool, true, false, List, ◌∷◌, ◌++◌, Option, Some, None, Result, Ok, Err}
+use Rattle.std.specs.Prelude.{◌≡◌, ℕ, Bool, true, false, IsTrue, List, ◌∷◌, ◌++◌, Option, Some, None, Result, Ok, Err}
 use Rattle.std.specs.Option.{option_to_list}
+use Rattle.texml_base.specs.Outside.{Shelf}
 use Rattle.texml_watch.specs.declared.record.Record.{Record}
 use Rattle.texml_watch.specs.Telling.{AllHeard}
 use Rattle.texml_expand.specs.declared.stop.Stop.{Stop}
@@ -80,3 +81,7 @@ module _ {T : Type 0} (hear part : T → Record → T → Type 0) where
     pub answer : Answer A
     pub given : DecidesOn reading answer
     pub meets : Meets answer result s a b
+
+  -- the same, if the files tell what they have
+  abbrev pub FollowsTold : {A : Type 0} → Shelf → (ℕ → Answer A) → Result A Stop → State → T → T → Type 0
+  FollowsTold before reading result s a b = IsTrue before.tells → Follows reading result s a b

@@ -1,9 +1,10 @@
 -- What holds of fetching, expanding and reading from every state.
-use Rattle.std.specs.Prelude.{◌≡◌, ℕ, List}
+use Rattle.std.specs.Prelude.{◌≡◌, ℕ, Bool, List}
 use Rattle.texml_token.specs.Token.{Token}
 use Rattle.texml_expand.specs.declared.variables.Index.{Index}
 use Rattle.texml_expand.specs.State.{State, IsDecided}
 use Rattle.texml_expand.specs.Expand.{ByDepth, fetch, expand_once, read_int, read_dimen, read_glue, read_keyword, read_index}
+use Rattle.texml_expand.specs.Absorb.{absorb}
 
 -- from each state some depth decides
 abbrev pub Decides : {A : Type 0} → ByDepth A → Type 0
@@ -21,6 +22,7 @@ pub record AlwaysDecide : Type 0 where
   pub glue : Decides read_glue
   pub keyword : (word : List ℕ) → Decides (read_keyword word)
   pub index : (i : Index) → Decides (read_index i)
+  pub absorb : (expanding : Bool) → Decides (absorb expanding)
 
 pub record DecideOnce : Type 0 where
   pub fetch : Agrees fetch
@@ -30,3 +32,4 @@ pub record DecideOnce : Type 0 where
   pub glue : Agrees read_glue
   pub keyword : (word : List ℕ) → Agrees (read_keyword word)
   pub index : (i : Index) → Agrees (read_index i)
+  pub absorb : (expanding : Bool) → Agrees (absorb expanding)

@@ -1,14 +1,19 @@
-pub mod Rest
-pub mod Next
-pub mod Codes
 pub mod State
 pub mod Take
 pub mod Least
 pub mod Arguments
+pub mod Branches
 pub mod Calls
+pub mod Front
+pub mod Begin
+pub mod Braces
 pub mod Printed
 pub mod Variables
 pub mod Quantities
+pub mod Expansion
+pub mod Conditionals
+pub mod Names
+pub mod Gathering
 pub mod Expand
 pub mod Absorb
 pub mod Held
@@ -16,8 +21,6 @@ pub mod Contract
 pub mod Hearing
 pub mod Laws
 pub mod Lending
-pub mod Sources
-pub mod Turning
 pub mod Fronts
 pub mod Filling
 pub mod Doing
@@ -25,3 +28,4 @@ pub mod VariableCodes
 pub mod Machine
 pub mod Scanning
 pub mod Feeding
+pub mod Matched

@@ -1,5 +1,5 @@
 -- Only contracts of private functions need these: what the code's scanners make of looks.
-use Rattle.std.specs.Prelude.{suc}
+use Rattle.std.specs.Prelude.{◌≡◌, suc}
 use Rattle.texml_scan.specs.Grammar.{Expanded, Raw, Asked, Verdict, Wanting, Decided, Faulty, Remainder, verdict}
 use Rattle.texml_scan.specs.IntRest.{number_rest}
 use Rattle.texml_scan.specs.MeasureRest.{dimen_rest}
@@ -55,6 +55,14 @@ IsOver scanned.Raw = ⊥
 IsOver scanned.Asked = ⊥
 IsOver (scanned.Decided v n) = Unit {0}
 IsOver (scanned.Faulty f) = Unit {0}
+
+-- it has decided on this value
+abbrev pub HasValue : Value → Scanned → Type 0
+HasValue v scanned.Expanded = ⊥
+HasValue v scanned.Raw = ⊥
+HasValue v scanned.Asked = ⊥
+HasValue v (scanned.Decided w n) = w ≡ v
+HasValue v (scanned.Faulty f) = ⊥
 
 -- what is left of what a machine reads
 abbrev pub machine_rest : Machine → Remainder Value

@@ -23,7 +23,7 @@ use Rattle.texml_scan.specs.Keyword.{keyword}
 use Rattle.texml_expand.specs.declared.variables.Variable.{Variable}
 use Rattle.texml_expand.specs.declared.variables.Index.{Index}
 use Rattle.texml_expand.specs.declared.variables.Index.TheVariants.{Alone, Character, Register}
-use Rattle.texml_expand.specs.Next.{Taken}
+use Rattle.texml_input.specs.Next.{Taken}
 use Rattle.texml_expand.specs.State.{State, Reading, ◌>>=◌, ◌>>◌, give, fail, change}
 use Rattle.texml_expand.specs.Take.{take, put, meaning_of, means}
 use Rattle.texml_expand.specs.Printed.{printed_tokens, printed_dimension, printed_glue}
@@ -188,7 +188,7 @@ scan_by calls g seen = scan_on calls g seen (g (looks seen))
 -- What builtins give
 
 -- there must be a token
-abbrev pub needed : Option Looked → Reading Looked
+abbrev pub needed : {A : Type 0} → Option A → Reading A
 needed None = fail FILE_ENDED []
 needed (Some x) = give x
 
@@ -202,10 +202,15 @@ shown (Tokens list) = list
 abbrev pub internal_now : Calls → Token → Reading Internal
 internal_now calls t s = internal calls (means s.world t) s
 
--- what \the gives: the quantity or the list of tokens that begins with the next token
-abbrev pub the : Calls → Reading (List Token)
-the calls = do
+-- the quantity or the list of tokens that begins with the next token
+abbrev pub next_internal : Calls → Reading Internal
+next_internal calls = do
   o ← expanded calls
   x ← needed o
-  q ← internal_now calls x.counts
+  internal_now calls x.counts
+
+-- what \the gives
+abbrev pub the : Calls → Reading (List Token)
+the calls = do
+  q ← next_internal calls
   give (shown q)

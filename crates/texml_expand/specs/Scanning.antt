@@ -2,6 +2,7 @@
 use Rattle.std.specs.Prelude.{◌≡◌, ℕ, Bool, true, false, List, [], ◌∷◌, map, Option, None, Some}
 use Rattle.texml_token.specs.Numbers.{Table, token_at, TokenWithin}
 use Rattle.texml_scan.specs.declared.looks.Look.{Look}
+use Rattle.texml_scan.specs.Grammar.{Remainder, Decided}
 use Rattle.texml_expand.specs.declared.engine.expanding.Seen.{Seen as SeenCode}
 use Rattle.texml_expand.specs.declared.machine.Machine.{Machine}
 use Rattle.texml_expand.specs.declared.machine.Scanned.{Scanned}
@@ -25,6 +26,12 @@ raw_in scanned.Raw = Some true
 raw_in scanned.Asked = None
 raw_in (scanned.Decided v n) = None
 raw_in (scanned.Faulty f) = None
+
+-- some looks decide on this value
+pub record MayGive {V : Type 0} (rest : Remainder V) (value : V) : Type 0 where
+  pub looks : List Look
+  pub back : ℕ
+  pub is : rest looks ≡ Decided value back
 
 -- a scanner turned at one more look
 pub record Turned (old : Machine) (look : Look) (scanned : Scanned) (new : Machine) : Type 0 where

@@ -4,23 +4,30 @@ use Rattle.std.specs.Option.{option_to_list}
 use Rattle.texml_token.specs.Token.{Token}
 use Rattle.texml_token.specs.declared.fault.Fault.{Fault}
 use Rattle.texml_scope.specs.Texts.{World}
+use Rattle.texml_cond.specs.declared.limits.Bound.{Bound}
 use Rattle.texml_watch.specs.declared.record.Record.{Record}
-use Rattle.texml_expand.specs.Rest.{Item, Place, size}
+use Rattle.texml_input.specs.Rest.{Item, Place, size}
 
--- what names mean, what is still to be read, the token that comes after the next assignment, the expansions begun, their limit, how many are open,
--- and where the line stands that was loaded last
+-- what names mean, what is still to be read, and what is set aside, the innermost first; the token that comes after the next assignment; the
+-- expansions begun, their limit, and how many are open; where the line stands that was loaded last; the limits of the open conditionals, the
+-- innermost last; the name of the main file as it was given; and what the file of each name has, if there is one
 pub record State : Type 0 where
   pub world : World
   pub rest : List (Item Token)
+  pub aside : List (List (Item Token))
   pub kept : Option Token
   pub begun : ℕ
   pub limit : ℕ
   pub nesting : ℕ
   pub place : Place
+  pub conditionals : List Bound
+  pub job : List ℕ
+  pub contents : List ℕ → Option (List ℕ)
 
--- how much may still be read where no expansion begins: the rest, and the tokens that are kept for after groups and for after an assignment
+-- how much may still be read where no expansion begins: the rest and those that are set aside, and the tokens that are kept for after groups and
+-- for after an assignment
 abbrev pub room : State → ℕ
-room s = size s.rest + sum_by (λ g. length g.after) s.world.groups + length (option_to_list s.kept)
+room s = size s.rest + sum_by size s.aside + sum_by (λ g. length g.after) s.world.groups + length (option_to_list s.kept)
 
 -- what ends a run early: a fault of the text, or the limit
 pub data End : Type 0 where

@@ -2,7 +2,7 @@
 use Rattle.std.specs.Prelude.{ℕ, Bool, List, [], ◌∷◌, ◌++◌, map, Option, Some, None, pos, encode_utf8_all}
 use Rattle.std.specs.Option.{unwrap_or}
 use Rattle.texml_token.specs.Token.{Token, Char, Active, Param, Named, Fixed}
-use Rattle.texml_token.specs.declared.fault_code.TheConstants.{INVALID_CHAR}
+use Rattle.texml_token.specs.declared.fault_code.TheConstants.{INVALID_CHAR, NOT_UTF8}
 use Rattle.texml_token.specs.Spelling.{spelled}
 use Rattle.texml_scope.specs.declared.values.KeyOf.TheVariants.{Name}
 use Rattle.texml_scope.specs.Texts.{Meaning, World}
@@ -10,18 +10,20 @@ use Rattle.texml_scope.specs.Values.{meaning_in}
 use Rattle.texml_scope.specs.declared.values.KeyOf.TheVariants.{Active as ActiveKey}
 use Rattle.texml_scope.specs.declared.values.MeaningOf.TheVariants.{Undefined, Builtin, Char as CharMeaning}
 use Rattle.texml_scope.specs.declared.builtins.TheConstants.{RELAX}
-use Rattle.texml_expand.specs.Rest.{Tok, back_as}
-use Rattle.texml_expand.specs.Next.{Taken, Given, Got, AtEnd, Invalid, next}
-use Rattle.texml_expand.specs.Codes.{cats_of, end_of}
+use Rattle.texml_input.specs.Rest.{Tok, back_as}
+use Rattle.texml_input.specs.Next.{Taken, Given, Got, AtEnd, Invalid, NotUtf8, next}
+use Rattle.texml_input.specs.Codes.{cats_of, end_of}
 use Rattle.texml_expand.specs.State.{State, Tex, fault_at, nothing, Done, Ended, Reading}
 
 -- Taking
 
--- the token that stands at the front of the rest, or the end
+-- the token that stands at the front of the rest, or the end; a character that may not stand there is fault 15, and a line that is not UTF-8
+-- fault 20
 abbrev pub take_given : Given → Reading (Option Taken)
-take_given (Got t rest place) s = Done (Some t) (record s { rest = rest; place = place }) nothing
-take_given (AtEnd place) s = Done None (record s { rest = []; place = place }) nothing
-take_given (Invalid c place) s = Ended (Tex (fault_at INVALID_CHAR [] place)) nothing
+take_given (Got t rest place bytes) s = Done (Some t) (record s { rest = rest; place = place }) nothing
+take_given (AtEnd place bytes) s = Done None (record s { rest = []; place = place }) nothing
+take_given (Invalid c place bytes) s = Ended (Tex (fault_at INVALID_CHAR [] place)) nothing
+take_given (NotUtf8 place bytes) s = Ended (Tex (fault_at NOT_UTF8 [] place)) nothing
 
 abbrev pub take : Reading (Option Taken)
 take s = take_given (next (cats_of s.world) (end_of s.world) s.rest s.place) s

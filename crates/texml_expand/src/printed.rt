@@ -1,4 +1,4 @@
-//! What `\the`, `\number` and `\romannumeral` write: characters of category 12, but spaces of category 10.
+//! What `\the`, `\number`, `\romannumeral`, `\string` and `\jobname` write: characters of category 12, but spaces of category 10.
 
 ghost use Rattle.std.specs.Prelude.{◌≡◌, ◌++◌, ◌<◌, ℕ, IfOk, OnOk, replicate};
 ghost use Rattle.std.specs.Fmt.{signed_decimal};
@@ -8,9 +8,6 @@ ghost use Rattle.texml_expand.specs.Printed.{printed_char as spec_printed_char, 
 use std::alloc::{AllocError, Global};
 use texml_fixed::{Glue, Order, Scaled};
 use texml_token::{Bytes, Token, Tokens, category};
-
-// The code of a space.
-const BLANK: u8 = 32;
 
 /// A number.
 pub(crate) fn printed_number(alloc: Global, value: i32) -> Result<Tokens, AllocError>
@@ -56,27 +53,39 @@ pub(crate) fn printed_glue(alloc: Global, value: Glue) -> Result<Tokens, AllocEr
     tokens_of(alloc, text.as_slice())
 }
 
-// The characters of a text.
+/// A text.
+pub(crate) fn printed_text(alloc: Global, text: &[char]) -> Result<Tokens, AllocError>
+    ensures is { IfOk result (λ list. (texts : Table) → tokens_at texts list ≡ printed_tokens text.now) }
+    ensures within { IfOk result (λ list. (count : ℕ) → TokensWithin count list) }
+{
+    let mut list = Tokens::new(alloc);
+    for c in text {
+        list.push(printed_char(*c))?;
+    }
+    Ok(list)
+}
+
+// The characters of a text in ASCII.
 fn tokens_of(alloc: Global, text: &[u8]) -> Result<Tokens, AllocError>
     ensures is { IfOk result (λ list. (texts : Table) → tokens_at texts list ≡ printed_tokens text.now) }
     ensures within { IfOk result (λ list. (count : ℕ) → TokensWithin count list) }
 {
     let mut list = Tokens::new(alloc);
     for code in text {
-        list.push(printed_char(*code))?;
+        list.push(printed_char(char::from(*code)))?;
     }
     Ok(list)
 }
 
 // A character of a text.
-fn printed_char(code: u8) -> Token
-    ensures is { (texts : Table) → token_at texts result ≡ spec_printed_char code }
+fn printed_char(c: char) -> Token
+    ensures is { (texts : Table) → token_at texts result ≡ spec_printed_char c }
     ensures within { (count : ℕ) → TokenWithin count result }
 {
-    if code == BLANK {
-        Token::Char(u32::from(code), category::SPACE)
+    if c == ' ' {
+        Token::Char(u32::from(c), category::SPACE)
     } else {
-        Token::Char(u32::from(code), category::OTHER)
+        Token::Char(u32::from(c), category::OTHER)
     }
 }
 

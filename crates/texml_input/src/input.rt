@@ -121,7 +121,7 @@ impl Input {
         answer
     }
 
-    /// Puts tokens in front, the first of them first. They are shared with the list.
+    /// Puts tokens in front, the first of them first. They are shared with the list. An empty list leaves nothing behind.
     ///
     /// # Errors
     ///
@@ -131,6 +131,9 @@ impl Input {
         ensures ok { OnOk result (self.new ≡ record self.old { sources = map Plain list.now ++ self.old.sources }) }
         ensures err { OnErr result (self.new ≡ self.old) }
     {
+        if list.as_slice().is_empty() {
+            return Ok(());
+        }
         let part = Part::new(list)?;
         self.push(Frame::List(part))
     }

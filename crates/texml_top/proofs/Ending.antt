@@ -20,7 +20,7 @@ use Rattle.texml_top.specs.declared.request.Command.TheVariants.{Convert, Expand
 use Rattle.texml_top.specs.Digest.{digests}
 use Rattle.texml_tree.specs.declared.model_fault.ModelFault.{ModelFault}
 use Rattle.texml_top.specs.Document.{document}
-use Rattle.texml_top.specs.Outcome.{Outcome, refused, page_outcome, text_of, status_of, OfOutcome, FromState}
+use Rattle.texml_top.specs.Outcome.{Outcome, refused, page_outcome, main_text, status_of, OfOutcome, FromState}
 use Rattle.texml_top.specs.Start.{IsFirst, Starts}
 use Rattle.texml_top.specs.Run.{stopped, EndsAs, WroteFirst, MayEnd, FilesBlamed, SinkBlamed, LimitIs, FitsWords, TouchesNothing, WritesLate, EndsPage, WritesDocument, DocumentAsked, WritesPage, PageAsked, WholeLines, LinesBy, LinesAsked}
 use Rattle.texml_tree.specs.declared.ops.Op.{Op}
@@ -187,11 +187,6 @@ module _ {T : Type 0} (lent : T → Lent) where
   part_whole rows None a b h calm = (Wrote-trace lent a b rows h).ink
   part_whole rows (Some last) a b h calm = (Wrote-within lent a h.0 b rows last h.1 h.2).whole calm
 
-  -- the sink is lent still
-  part_loan : (rows : List Record) (last : Option Record) (a b : T) → HeardLast Hears HearsPart rows last a b → (lent b).loan ≡ (lent a).loan
-  part_loan rows None a b h = (Wrote-trace lent a b rows h).loan
-  part_loan rows (Some last) a b h = (Wrote-within lent a h.0 b rows last h.1 h.2).loan
-
   -- records that were heard, and one in part
   first_part : (answer : Answer (List Op)) (a b : T) → MeetsFirst Hears HearsPart answer a b → MeetsPart Hears HearsPart answer a b
   first_part answer a b m = record { rows = m.rows; last = None; more = m.more; is = m.is ∙ ap (λ l. l ++ m.more) (sym (append-nil m.rows)); heard = m.heard }
@@ -203,14 +198,6 @@ module _ {T : Type 0} (lent : T → Lent) where
   trace_some : (rows more : List Record) (last : Record) → trace (rows ++ last ∷ more) ≢ []
   trace_some [] more last = line_some last (trace more)
   trace_some (row ∷ rows) more last = line_some row (trace (rows ++ last ∷ more))
-
-  pub expand_loan : (r : Result (List Op) Stop) (s new : State) (a b : T) → Follows Hears HearsPart (digests s) r new a b → (lent b).loan ≡ (lent a).loan
-  expand_loan (Ok v) s new a b g = (Wrote-trace lent a b g.meets.gains.records g.meets.heard).loan
-  expand_loan (Err (stop.Tex f)) s new a b g = (Wrote-trace lent a b g.meets.gains.records g.meets.heard).loan
-  expand_loan (Err (stop.Limit n)) s new a b g = (Wrote-trace lent a b g.meets.gains.records g.meets.heard).loan
-  expand_loan (Err stop.ReadFailed) s new a b g = part_loan g.meets.rows None a b g.meets.heard
-  expand_loan (Err stop.TellFailed) s new a b g = part_loan g.meets.rows (Some g.meets.last) a b g.meets.heard
-  expand_loan (Err stop.NoMemory) s new a b g = part_loan g.meets.rows g.meets.last a b g.meets.heard
 
   -- what holds of the trace holds of the outcome's bytes
   by_trace : (s : State) (answer : Answer (List Op)) (Has : List ℕ → Type 0) → DecidesOn (digests s) answer → Has (trace (added answer).records) → FromState Expand s (λ all. Has all.bytes)
@@ -333,8 +320,8 @@ pub asked_lines : (r : Result Request ℕ) (request : Request) (all : Outcome) (
 asked_lines r request all old new e h = subst (λ r. LinesAsked r all old new) (sym e) h
 
 -- a run that doesn't start
-module _ (words : List (List ℕ)) (shelf : Shelf) (request : Request) (e : asked words ≡ Ok request) where
-  pub start_meets : (s : Status) (ink : Ink) → Starts shelf request.file request.limit (Err s) → IsTrue shelf.tells → OfOutcome words shelf.contents (λ all. MayEnd s all ink ink)
+module _ (words : List (List ℕ)) (shelf now : Shelf) (request : Request) (e : asked words ≡ Ok request) where
+  pub start_meets : (s : Status) (ink : Ink) → Starts shelf now request.file request.limit (Err s) → IsTrue shelf.tells → OfOutcome words shelf.contents (λ all. MayEnd s all ink ink)
   start_meets status.Done ink h told = absurd h
   start_meets (status.Usage k) ink h told = absurd h
   start_meets (status.Tex f) ink h told = of_fault words shelf.contents request (status.Tex f) _ e (h told) (refused_ends (status.Tex f) ink)
@@ -344,7 +331,7 @@ module _ (words : List (List ℕ)) (shelf : Shelf) (request : Request) (e : aske
   start_meets status.WriteFault ink h told = absurd h
   start_meets status.NoMemory ink h told = of_any words shelf.contents _ (λ all. none_written all.bytes ink)
 
-  pub start_page : (command : Command) (s : Status) (all : Outcome) → Starts shelf request.file request.limit (Err s) → WritesPage command s all
+  pub start_page : (command : Command) (s : Status) (all : Outcome) → Starts shelf now request.file request.limit (Err s) → WritesPage command s all
   start_page Convert status.Done all h = tt
   start_page Convert (status.Usage k) all h = tt
   start_page Convert (status.Tex f) all h = tt
@@ -355,36 +342,36 @@ module _ (words : List (List ℕ)) (shelf : Shelf) (request : Request) (e : aske
   start_page Convert status.NoMemory all h = tt
   start_page Expand s all h = tt
 
-pub start_document : (shelf : Shelf) (name : List ℕ) (limit : ℕ) (command : Command) (s : Status) (ink : Ink) → Starts shelf name limit (Err s) → WritesDocument command s ink ink
-start_document shelf name limit Convert status.Done ink h = absurd h
-start_document shelf name limit Convert (status.Usage k) ink h = tt
-start_document shelf name limit Convert (status.Tex f) ink h = tt
-start_document shelf name limit Convert (status.Model f) ink h = tt
-start_document shelf name limit Convert (status.Limit n) ink h = tt
-start_document shelf name limit Convert status.ReadFault ink h = tt
-start_document shelf name limit Convert status.WriteFault ink h = absurd h
-start_document shelf name limit Convert status.NoMemory ink h = tt
-start_document shelf name limit Expand s ink h = tt
+pub start_document : (shelf now : Shelf) (name : List ℕ) (limit : ℕ) (command : Command) (s : Status) (ink : Ink) → Starts shelf now name limit (Err s) → WritesDocument command s ink ink
+start_document shelf now name limit Convert status.Done ink h = absurd h
+start_document shelf now name limit Convert (status.Usage k) ink h = tt
+start_document shelf now name limit Convert (status.Tex f) ink h = tt
+start_document shelf now name limit Convert (status.Model f) ink h = tt
+start_document shelf now name limit Convert (status.Limit n) ink h = tt
+start_document shelf now name limit Convert status.ReadFault ink h = tt
+start_document shelf now name limit Convert status.WriteFault ink h = absurd h
+start_document shelf now name limit Convert status.NoMemory ink h = tt
+start_document shelf now name limit Expand s ink h = tt
 
-pub start_sink : (shelf : Shelf) (name : List ℕ) (limit : ℕ) (s : Status) (n : ℕ) → Starts shelf name limit (Err s) → SinkBlamed s n n
-start_sink shelf name limit status.Done n h = refl
-start_sink shelf name limit (status.Usage k) n h = refl
-start_sink shelf name limit (status.Tex f) n h = refl
-start_sink shelf name limit (status.Model f) n h = refl
-start_sink shelf name limit (status.Limit m) n h = refl
-start_sink shelf name limit status.ReadFault n h = refl
-start_sink shelf name limit status.WriteFault n h = absurd h
-start_sink shelf name limit status.NoMemory n h = refl
+pub start_sink : (shelf now : Shelf) (name : List ℕ) (limit : ℕ) (s : Status) (n : ℕ) → Starts shelf now name limit (Err s) → SinkBlamed s n n
+start_sink shelf now name limit status.Done n h = refl
+start_sink shelf now name limit (status.Usage k) n h = refl
+start_sink shelf now name limit (status.Tex f) n h = refl
+start_sink shelf now name limit (status.Model f) n h = refl
+start_sink shelf now name limit (status.Limit m) n h = refl
+start_sink shelf now name limit status.ReadFault n h = refl
+start_sink shelf now name limit status.WriteFault n h = absurd h
+start_sink shelf now name limit status.NoMemory n h = refl
 
-pub start_limit : (shelf : Shelf) (name : List ℕ) (limit more : ℕ) (s : Status) → Starts shelf name limit (Err s) → LimitIs more s
-start_limit shelf name limit more status.Done h = tt
-start_limit shelf name limit more (status.Usage k) h = h
-start_limit shelf name limit more (status.Tex f) h = tt
-start_limit shelf name limit more (status.Model f) h = tt
-start_limit shelf name limit more (status.Limit m) h = absurd h
-start_limit shelf name limit more status.ReadFault h = tt
-start_limit shelf name limit more status.WriteFault h = tt
-start_limit shelf name limit more status.NoMemory h = tt
+pub start_limit : (shelf now : Shelf) (name : List ℕ) (limit more : ℕ) (s : Status) → Starts shelf now name limit (Err s) → LimitIs more s
+start_limit shelf now name limit more status.Done h = tt
+start_limit shelf now name limit more (status.Usage k) h = h
+start_limit shelf now name limit more (status.Tex f) h = tt
+start_limit shelf now name limit more (status.Model f) h = tt
+start_limit shelf now name limit more (status.Limit m) h = absurd h
+start_limit shelf now name limit more status.ReadFault h = tt
+start_limit shelf now name limit more status.WriteFault h = tt
+start_limit shelf now name limit more status.NoMemory h = tt
 
 -- what the words say of a status
 pub fits_ok : (r : Result Request ℕ) (request : Request) (s : Status) → r ≡ Ok request → LimitIs request.limit s → FitsWords r s
@@ -397,6 +384,6 @@ pub untouched_ok : (r : Result Request ℕ) (request : Request) (shelf new : She
 untouched_ok r request shelf new ink more e = subst (λ r. TouchesNothing r shelf new ink more) (sym e) tt
 
 -- a run that has started
-pub started : (words : List (List ℕ)) (contents : List ℕ → Option (List ℕ)) (request : Request) (engine : Held) (Has : Outcome → Type 0) → asked words ≡ Ok request
-    → IsFirst request.file request.limit (text_of request.file (contents request.file)) engine → FromState request.command (state_of engine) Has → OfOutcome words contents Has
-started words contents request engine Has e first h = of_state words contents request first.0 (state_of engine) Has e first.1 first.2 h
+pub started : (words : List (List ℕ)) (contents : List ℕ → Option (List ℕ)) (request : Request) (shelf : Shelf) (engine : Held) (Has : Outcome → Type 0) → asked words ≡ Ok request
+    → IsFirst contents request.file request.limit (main_text contents request.file) shelf engine → FromState request.command (state_of shelf engine) Has → OfOutcome words contents Has
+started words contents request shelf engine Has e first h = of_state words contents request first.0 (state_of shelf engine) Has e first.1 first.2 h

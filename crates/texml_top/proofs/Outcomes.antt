@@ -2,6 +2,7 @@
 use Rattle.std.proofs.Common.{◌≡◌, ℕ, List, [], Result, Ok, Err, refl, sym, ap, ◌∙◌, subst}
 use Rattle.std.specs.declared.option.Option.{Option}
 use Rattle.texml_watch.specs.Trace.{trace}
+use Rattle.texml_input.specs.Rest.{Page}
 use Rattle.texml_expand.specs.State.{State, Answer, Done, Ended, Unfinished, IsDecided, added}
 use Rattle.texml_expand.specs.Contract.{DecidesOn}
 use Rattle.texml_top.specs.Request.{Request, asked}
@@ -9,7 +10,7 @@ use Rattle.texml_top.specs.declared.request.Command.{Command}
 use Rattle.texml_top.specs.declared.request.Command.TheVariants.{Convert, Expand}
 use Rattle.texml_top.specs.Digest.{digests}
 use Rattle.texml_top.specs.Document.{document}
-use Rattle.texml_top.specs.Outcome.{Outcome, refused, page_outcome, text_of, first_state, status_of, IsOutcomeBy, IsOutcomeFrom, IsOutcomeOf, IsOutcomeAsked, OneOutcome, WithOutcome, OfOutcome, FromState}
+use Rattle.texml_top.specs.Outcome.{Outcome, refused, page_outcome, main_text, first_state, status_of, IsOutcomeBy, IsOutcomeFrom, IsOutcomeOf, IsOutcomeAsked, OneOutcome, WithOutcome, OfOutcome, FromState}
 use Rattle.texml_tree.specs.declared.ops.Op.{Op}
 use Rattle.texml_top.specs.declared.status.Status.{Status}
 use Rattle.texml_top.specs.declared.status.Status.TheVariants as status
@@ -79,14 +80,14 @@ one_from : (command : Command) (s : State) (all : Outcome) → IsOutcomeFrom com
 unfolding outcome_from
 one_from command s all h = one_by command h.answer all h.is ∙ ap (outcome_by command) (decides_one (digests s) (lawful_digests.mono s) h.answer (answer_from s) h.given (decides_from s))
 
-one_of : (request : Request) (found : Result (List ℕ) Status) → (all : Outcome) × IsOutcomeOf request found all × ((other : Outcome) → IsOutcomeOf request found other → other ≡ all)
-one_of request (Ok text) =
-    let s = first_state request.file request.limit text in
+one_of : (request : Request) (contents : List ℕ → Option (List ℕ)) (found : Result Page Status) → (all : Outcome) × IsOutcomeOf request contents found all × ((other : Outcome) → IsOutcomeOf request contents found other → other ≡ all)
+one_of request contents (Ok text) =
+    let s = first_state contents request.file request.limit text in
     (outcome_from request.command s, is_outcome_from request.command s, one_from request.command s)
-one_of request (Err s) = (refused s, refl, λ other e. e)
+one_of request contents (Err s) = (refused s, refl, λ other e. e)
 
 one_asked : (r : Result Request ℕ) (contents : List ℕ → Option (List ℕ)) → (all : Outcome) × IsOutcomeAsked r contents all × ((other : Outcome) → IsOutcomeAsked r contents other → other ≡ all)
-one_asked (Ok request) contents = one_of request (text_of request.file (contents request.file))
+one_asked (Ok request) contents = one_of request contents (main_text contents request.file)
 one_asked (Err which) contents = (refused (status.Usage which), refl, λ other e. e)
 
 pub one_outcome : (words : List (List ℕ)) (contents : List ℕ → Option (List ℕ)) → OneOutcome words contents
@@ -110,17 +111,17 @@ pub of_words : (words : List (List ℕ)) (contents : List ℕ → Option (List �
 of_words words contents which Has e h = record { all = refused (status.Usage which); is = subst (λ r. IsOutcomeAsked r contents (refused (status.Usage which))) (sym e) refl; has = h }
 
 pub of_fault : (words : List (List ℕ)) (contents : List ℕ → Option (List ℕ)) (request : Request) (s : Status) (Has : Outcome → Type 0) → asked words ≡ Ok request
-    → text_of request.file (contents request.file) ≡ Err s → Has (refused s) → OfOutcome words contents Has
+    → main_text contents request.file ≡ Err s → Has (refused s) → OfOutcome words contents Has
 of_fault words contents request s Has e f h = record {
   all = refused s;
-  is = subst (λ r. IsOutcomeAsked r contents (refused s)) (sym e) (subst (λ t. IsOutcomeOf request t (refused s)) (sym f) refl);
+  is = subst (λ r. IsOutcomeAsked r contents (refused s)) (sym e) (subst (λ t. IsOutcomeOf request contents t (refused s)) (sym f) refl);
   has = h;
 }
 
-pub of_state : (words : List (List ℕ)) (contents : List ℕ → Option (List ℕ)) (request : Request) (text : List ℕ) (s : State) (Has : Outcome → Type 0) → asked words ≡ Ok request
-    → text_of request.file (contents request.file) ≡ Ok text → s ≡ first_state request.file request.limit text → FromState request.command s Has → OfOutcome words contents Has
+pub of_state : (words : List (List ℕ)) (contents : List ℕ → Option (List ℕ)) (request : Request) (text : Page) (s : State) (Has : Outcome → Type 0) → asked words ≡ Ok request
+    → main_text contents request.file ≡ Ok text → s ≡ first_state contents request.file request.limit text → FromState request.command s Has → OfOutcome words contents Has
 of_state words contents request text s Has e f same h = record {
   all = h.all;
-  is = subst (λ r. IsOutcomeAsked r contents h.all) (sym e) (subst (λ t. IsOutcomeOf request t h.all) (sym f) (subst (λ u. IsOutcomeFrom request.command u h.all) same h.is));
+  is = subst (λ r. IsOutcomeAsked r contents h.all) (sym e) (subst (λ t. IsOutcomeOf request contents t h.all) (sym f) (subst (λ u. IsOutcomeFrom request.command u h.all) same h.is));
   has = h.has;
 }

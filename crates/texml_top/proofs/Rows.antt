@@ -1,8 +1,9 @@
 -- Digestion and outcomes, computed on small texts.
-use Rattle.std.proofs.Common.{◌≡◌, ℕ, List, [], ◌∷◌, Option, Some, None, refl}
+use Rattle.std.proofs.Common.{◌≡◌, ℕ, List, [], ◌∷◌, Option, Some, None, map, length, ◌+◌, refl}
 use Rattle.std.specs.Prelude.{codes}
 use Rattle.texml_token.specs.declared.fault_code.TheConstants.{NO_GROUP}
-use Rattle.texml_expand.specs.State.{Answer, Done, Ended, Unfinished, Tex, fault_at}
+use Rattle.texml_input.specs.Rest.{Page, fresh}
+use Rattle.texml_expand.specs.State.{State, Answer, Done, Ended, Unfinished, Tex, fault_at}
 use Rattle.texml_top.specs.Digest.{digests}
 use Rattle.texml_top.specs.declared.request.Command.TheVariants.{Expand}
 use Rattle.texml_top.specs.Outcome.{first_state, IsOutcomeFrom, IsOutcome}
@@ -11,8 +12,15 @@ use Rattle.texml_tree.specs.declared.ops.Op.TheVariants.{Open, Close, CloseIf, S
 use Rattle.texml_top.specs.declared.table.TheConstants.{PARAGRAPH, BREAK, CODE}
 use Rattle.texml_top.specs.declared.status.Status.TheVariants as status
 
-read : ℕ → List ℕ → ℕ → Answer (List Op)
-read limit text n = digests (first_state (codes "f") limit text) n
+-- a file of these lines, and no other
+lines : List (List ℕ) → Page
+lines texts = fresh (codes "f") (map (λ text. record { text = Some text; size = length text + 1 }) texts)
+
+first : ℕ → List (List ℕ) → State
+first limit texts = first_state (λ name. None) (codes "f") limit (lines texts)
+
+read : ℕ → List (List ℕ) → ℕ → Answer (List Op)
+read limit texts n = digests (first limit texts) n
 
 -- the operations that digestion gave
 document : Answer (List Op) → Option (List Op)
@@ -21,38 +29,38 @@ document (Ended e gains) = None
 document (Unfinished gains) = None
 
 -- a macro is defined and expanded; blanks behind a name are skipped
-defined : document (read 9 (codes "\\def\\a{x}\\a") 9) ≡ Some (Text (codes "x") ∷ [])
-unfolding read document lib.Utf8.encode
+defined : document (read 9 (codes "\\def\\a{x}\\a" ∷ []) 9) ≡ Some (Text (codes "x") ∷ [])
+unfolding lines first read document lib.Utf8.encode
 defined = refl
 
 -- the old meaning is back behind a group
-undone : document (read 9 (codes "\\def\\a{x}{\\def\\a{y}\\a}\\a") 9) ≡ Some (Text (codes "yx") ∷ [])
-unfolding read document lib.Utf8.encode
+undone : document (read 9 (codes "\\def\\a{x}{\\def\\a{y}\\a}\\a" ∷ []) 9) ≡ Some (Text (codes "yx") ∷ [])
+unfolding lines first read document lib.Utf8.encode
 undone = refl
 
 -- the end of a line is a space, which goes on a text, and a blank line ends a paragraph
-blank_line : document (read 9 (codes "\\ a\n\nb") 9) ≡ Some (Space ∷ Text (codes "a ") ∷ CloseIf PARAGRAPH ∷ Text (codes "b ") ∷ [])
-unfolding read document lib.Utf8.encode
+blank_line : document (read 9 (codes "\\ a" ∷ [] ∷ codes "b" ∷ []) 9) ≡ Some (Space ∷ Text (codes "a ") ∷ CloseIf PARAGRAPH ∷ Text (codes "b ") ∷ [])
+unfolding lines first read document lib.Utf8.encode
 blank_line = refl
 
 -- characters as they stand, and the end of a line with a star and an argument behind it
-verb : document (read 9 (codes "a\\verb*+$ %+b\\\\*[2pt] c") 20) ≡ Some (Text (codes "a") ∷ Open CODE [] ∷ Text (codes "$ %") ∷ Close CODE ∷ Text (codes "b") ∷ Open BREAK [] ∷ Close BREAK ∷ Space ∷ Text (codes "c ") ∷ [])
-unfolding read document lib.Utf8.encode
+verb : document (read 9 (codes "a\\verb*+$ %+b\\\\*[2pt] c" ∷ []) 20) ≡ Some (Text (codes "a") ∷ Open CODE [] ∷ Text (codes "$ %") ∷ Close CODE ∷ Text (codes "b") ∷ Open BREAK [] ∷ Close BREAK ∷ Space ∷ Text (codes "c ") ∷ [])
+unfolding lines first read document lib.Utf8.encode
 verb = refl
 
 -- the end of a group that wasn't begun
-no_group : read 9 (codes "}") 9 ≡ Ended (Tex (fault_at NO_GROUP [] (record { file = codes "f"; line = 0 }))) (record { records = [] })
-unfolding read lib.Utf8.encode
+no_group : read 9 (codes "}" ∷ []) 9 ≡ Ended (Tex (fault_at NO_GROUP [] (record { file = codes "f"; line = 1 }))) (record { records = [] })
+unfolding lines first read lib.Utf8.encode
 no_group = refl
 
 -- the trace of a macro that gives itself back, up to the limit
-trace_to_limit : IsOutcomeFrom Expand (first_state (codes "f") 2 (codes "\\def\\x{\\x}\\x")) (record {
+trace_to_limit : IsOutcomeFrom Expand (first 2 (codes "\\def\\x{\\x}\\x" ∷ [])) (record {
   status = status.Limit 2;
   bytes = codes "\\x -> \\x \n\\x -> \\x \n";
   records = record { token = codes "\\x"; put = codes "\\x "; file = [] } ∷ record { token = codes "\\x"; put = codes "\\x "; file = [] } ∷ [];
 })
-unfolding read lib.Utf8.encode
-trace_to_limit = record { answer = read 2 (codes "\\def\\x{\\x}\\x") 9; given = record { depth = 9; is = refl; decided = tt }; is = refl }
+unfolding lines first read lib.Utf8.encode
+trace_to_limit = record { answer = read 2 (codes "\\def\\x{\\x}\\x" ∷ []) 9; given = record { depth = 9; is = refl; decided = tt }; is = refl }
 
 -- words that are no command line: the second one is missing
 too_few : (contents : List ℕ → Option (List ℕ)) → IsOutcome (codes "convert" ∷ []) contents (record { status = status.Usage 2; bytes = []; records = [] })

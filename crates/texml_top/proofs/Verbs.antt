@@ -6,6 +6,7 @@ use Rattle.std.specs.Result.{OnOk}
 use Rattle.std.proofs.lemmas.Bool.{ne_eqb}
 use Rattle.std.proofs.lemmas.List.{take_more, take_all}
 use Rattle.std.proofs.lemmas.List.Sums.{fold-append}
+use Rattle.texml_base.specs.Outside.{Shelf}
 use Rattle.texml_token.specs.Token.{Token, Char, Active}
 use Rattle.texml_token.specs.declared.category.TheConstants.{SPACE, OTHER}
 use Rattle.texml_token.specs.declared.fault_code.TheConstants.{FILE_ENDED, MISPLACED}
@@ -22,15 +23,15 @@ use Rattle.texml_scope.specs.declared.values.KindOf.TheVariants.{Begin}
 use Rattle.texml_expand.specs.declared.stop.Stop.{Stop}
 use Rattle.texml_expand.specs.State.{State, Done, nothing, give, change, chain}
 use Rattle.texml_watch.specs.declared.record.Record.{Record}
-use Rattle.texml_expand.specs.Contract.{Outside, Silent}
-use Rattle.texml_expand.specs.Held.{Held, state_of, Sound, Kept}
+use Rattle.texml_expand.specs.Contract.{Outside, Local}
+use Rattle.texml_expand.specs.Held.{Held, state_of, Sound, Kept, Owns, Puts}
 use Rattle.texml_expand.proofs.Fronts.{kept_then}
 use Rattle.texml_assign.specs.Doing.{Does}
 use Rattle.texml_assign.specs.Loop.{ByDepth, Next, On, Over}
 use Rattle.texml_assign.specs.Operands.{token_or_end}
 use Rattle.texml_assign.specs.Sets.{begin_kind, end_kind}
 use Rattle.texml_assign.proofs.Readings.{Lawful, Plain, lawful_plain, lawful_then, plain_give, plain_fail, plain_if, plain_then, plain_change}
-use Rattle.texml_assign.proofs.Doing.{does_then, does_stop, does_silent, does_now, advances_stopped}
+use Rattle.texml_assign.proofs.Doing.{does_then, does_stop, does_judge, does_now, puts_then}
 use Rattle.texml_assign.proofs.Looping.{LawfulLoop, lawful_loop}
 use Rattle.texml_assign.proofs.Parts.{same_room, plain_token_or_end, spaces_laws, plain_begin, plain_end}
 use Rattle.texml_top.specs.declared.verb.TheConstants.{SPECIALS}
@@ -98,11 +99,11 @@ lawful_verb = lawful_then (λ n. begin_verb) behind_begin (lawful_plain begin_ve
 -- In the code
 
 -- a character is made an other
-pub other_state : (h new : Held) (scope : Shown) (c writes : ℕ) → Sound h → IsScalar c → world_of scope ≡ set_local same_key (keys.Cat c) (values.Number (pos OTHER)) (world_of h.scope) → new ≡ record h { scope = scope; writes = writes }
-    → change (all_other (c ∷ [])) (state_of h) ≡ Done tt (state_of new) nothing
-other_state h new scope c writes sound scalar e is =
-    ap (λ w. Done tt (record (state_of h) { world = w }) nothing) (sym (ap (world_at h.names) e ∙ world_set_local h.names sound.numbered (keys.Cat c) scalar (values.Number (pos OTHER)) (world_of h.scope)))
-    ∙ ap (λ (n : Held). Done tt (state_of n) nothing) (sym is)
+pub other_state : (shelf : Shelf) (h new : Held) (scope : Shown) (c writes : ℕ) → Sound h → IsScalar c → world_of scope ≡ set_local same_key (keys.Cat c) (values.Number (pos OTHER)) (world_of h.scope) → new ≡ record h { scope = scope; writes = writes }
+    → change (all_other (c ∷ [])) (state_of shelf h) ≡ Done tt (state_of shelf new) nothing
+other_state shelf h new scope c writes sound scalar e is =
+    ap (λ w. Done tt (record (state_of shelf h) { world = w }) nothing) (sym (ap (world_at h.names) e ∙ world_set_local h.names sound.numbered (keys.Cat c) scalar (values.Number (pos OTHER)) (world_of h.scope)))
+    ∙ ap (λ (n : Held). Done tt (state_of shelf n) nothing) (sym is)
 
 pub other_covered : (h : Held) (scope : Shown) (c : ℕ) → Sound h → IsScalar c → world_of scope ≡ set_local same_key (keys.Cat c) (values.Number (pos OTHER)) (world_of h.scope) → WorldCovered (length h.names) (world_of scope)
 other_covered h scope c sound scalar e = subst (WorldCovered (length h.names)) (sym e) (set_local_covered (length h.names) (keys.Cat c) (values.Number (pos OTHER)) scalar tt (world_of h.scope) sound.scope)
@@ -121,6 +122,10 @@ pub keeps_behind : {A : Type 0} (r : Result A Stop) (h i j : Held) → Kept h i 
 keeps_behind (Ok v) h i j g k = kept_then h i j g k
 keeps_behind (Err e) h i j g k = tt
 
+pub puts_behind : {A : Type 0} (r : Result A Stop) (h i j : Held) → Puts 0 h i → OnOk r (Puts 0 i j) → OnOk r (Puts 0 h j)
+puts_behind (Ok v) h i j p q = puts_then p q
+puts_behind (Err e) h i j p q = tt
+
 -- a character is the delimiter, or goes to the text
 pub char_over : (d : ℕ) (seen : List ℕ) (c : ℕ) (s : State) → c ≡ d → char_turn d seen c s ≡ Done (Over seen) s nothing
 char_over d seen c s e = ap (λ b. Done (if b then Over seen else On (seen ++ encode_utf8 c)) s nothing) (eq-eqb c d e)
@@ -130,15 +135,15 @@ char_on d seen more c s ne e = ap (λ b. Done (if b then Over seen else On (seen
 
 -- a turn of the loop, by the character of its token
 module _ {T : Type 0} (hear part : T → Record → T → Type 0) where
-  pub turn_does : (d : ℕ) (seen : List ℕ) (t : Token) (c : ℕ) (next : Next (List ℕ) (List ℕ)) (mid far : Held) (x : Outside) (a : T) → Silent (char_of t (state_of mid)) (Ok c) (state_of far) → far.stop ≡ None → Kept mid far
-      → far ≡ record mid { stop = far.stop } → char_turn d seen c (state_of far) ≡ Done next (state_of far) nothing → Does hear part (text_turn d seen t) (Ok next) mid far x x a a
-  turn_does d seen t c next mid far x a gives running keeps is e =
-      does_then hear part (λ n. char_of t) (λ c n. char_turn d seen c) (lawful_plain (char_of t) (plain_char_of t)) (λ c. lawful_plain (char_turn d seen c) (plain_give _)) c (Ok next) mid far far x x x a a a
-      (does_silent hear part (char_of t) (plain_char_of t) (Ok c) mid far x.read_faults x.read_faults x.tell_faults x.tell_faults a a refl refl refl gives running keeps (advances_stopped mid far far.stop is))
-      (does_now hear part (char_turn d seen c) (plain_give _) next far x a keeps.sound running e)
+  pub turn_does : (d : ℕ) (seen : List ℕ) (t : Token) (c : ℕ) (next : Next (List ℕ) (List ℕ)) (mid far : Held) (x : Outside) (a : T) → Owns x.shelf mid → Local (char_of t) (Ok c) mid far → far.stop ≡ None → Kept mid far
+      → far ≡ record mid { stop = far.stop } → ((shelf : Shelf) → char_turn d seen c (state_of shelf far) ≡ Done next (state_of shelf far) nothing) → Does hear part (text_turn d seen t) (Ok next) mid far x x a a
+  turn_does d seen t c next mid far x a owns gives running keeps is e =
+      let first = does_judge hear part (char_of t) (plain_char_of t) (Ok c) mid far x a owns gives running keeps is in
+      does_then hear part (λ n. char_of t) (λ c n. char_turn d seen c) (lawful_plain (char_of t) (plain_char_of t)) (λ c. lawful_plain (char_turn d seen c) (plain_give _)) c (Ok next) mid far far x x x a a a first
+      (does_now hear part (char_turn d seen c) (plain_give _) next far x a keeps.sound first.holds.owns running e)
 
-  pub turn_ends : (d : ℕ) (seen : List ℕ) (t : Token) (e : Stop) (mid far : Held) (x : Outside) (a : T) → Sound mid → Silent {A = ℕ} (char_of t (state_of mid)) (Err e) (state_of far) → far.stop ≡ Some e
+  pub turn_ends : (d : ℕ) (seen : List ℕ) (t : Token) (e : Stop) (mid far : Held) (x : Outside) (a : T) → Sound mid → Owns x.shelf mid → Local {A = ℕ} (char_of t) (Err e) mid far → far.stop ≡ Some e
       → far ≡ record mid { stop = far.stop } → Does hear part (text_turn d seen t) (Err e) mid far x x a a
-  turn_ends d seen t e mid far x a sound gives stopped is =
+  turn_ends d seen t e mid far x a sound owns gives stopped is =
       does_stop hear part (λ n. char_of t) (λ c n. char_turn d seen c) (lawful_plain (char_of t) (plain_char_of t)) (λ c. lawful_plain (char_turn d seen c) (plain_give _)) e mid far x x a a sound
-      (does_silent hear part (char_of t) (plain_char_of t) (Err e) mid far x.read_faults x.read_faults x.tell_faults x.tell_faults a a refl refl refl gives stopped tt (advances_stopped mid far far.stop is))
+      (does_judge hear part (char_of t) (plain_char_of t) (Err e) mid far x a owns gives stopped tt is)

@@ -1,13 +1,15 @@
 -- What a run answers and writes.
-use Rattle.std.specs.Prelude.{◌≡◌, ℕ, List, [], ◌∷◌, if◌then◌else◌, Result, Ok, Err, None, Some}
+use Rattle.std.specs.Prelude.{◌≡◌, ℕ, List, [], ◌∷◌, unwrap_or, Result, Ok, Err, None}
 use Rattle.std.specs.declared.option.Option.{Option}
-use Rattle.std.specs.Str.{chars, is_utf8}
-use Rattle.texml_token.specs.declared.fault_code.TheConstants.{MISSING_FILE, NOT_UTF8}
-use Rattle.texml_text.specs.Lines.{lines, without_mark}
+use Rattle.std.specs.Option.{option_map, ok_or}
+use Rattle.texml_token.specs.declared.fault_code.TheConstants.{MISSING_FILE}
+use Rattle.texml_text.specs.File.{rows}
 use Rattle.texml_scope.specs.Builtins.{first_world}
 use Rattle.texml_watch.specs.declared.record.Record.{Record}
 use Rattle.texml_watch.specs.Trace.{trace}
-use Rattle.texml_expand.specs.Rest.{Place, Text, fresh}
+use Rattle.texml_input.specs.Rest.{Page, Place, Text, fresh}
+use Rattle.texml_input.specs.Next.{place_at}
+use Rattle.texml_input.specs.Searching.{names_tried, first_there}
 use Rattle.texml_expand.specs.State.{State, End, Tex, Limit, Answer, Done, Ended, Unfinished, fault_at}
 use Rattle.texml_expand.specs.Contract.{DecidesOn}
 use Rattle.texml_top.specs.Request.{Request, asked}
@@ -32,23 +34,30 @@ refused s = record { status = s; bytes = []; records = [] }
 
 -- the place before the first line of a file
 abbrev pub before : List ℕ → Place
-before file = record { file = file; line = 0 }
+before file = place_at file 0
 
--- the characters of the main file; no file is a fault about its name, and bytes that are no UTF-8 are a fault
-abbrev pub text_of : List ℕ → Option (List ℕ) → Result (List ℕ) Status
-text_of file None = Err (status.Tex (fault_at MISSING_FILE file (before file)))
-text_of file (Some bytes) = if is_utf8 bytes then Ok (chars bytes) else Err (status.Tex (fault_at NOT_UTF8 [] (before file)))
+-- the text of a file that there is: all its lines are still to be read
+abbrev pub whole_text : (List ℕ → Option (List ℕ)) → List ℕ → Page
+whole_text contents name = fresh name (rows (unwrap_or (contents name) []))
 
--- the state that a run starts with: the builtins have their names, and the lines of the text are still to be read
-abbrev pub first_state : List ℕ → ℕ → List ℕ → State
-first_state file limit text = record {
+-- the main file's, which is the first that there is of the names that are tried; where there is none it is a fault about the name that was given
+abbrev pub main_text : (List ℕ → Option (List ℕ)) → List ℕ → Result Page Status
+main_text contents file = ok_or (option_map (whole_text contents) (first_there contents (names_tried file))) (status.Tex (fault_at MISSING_FILE file (before file)))
+
+-- the state that a run starts with: the builtins have their names, and the main file is still to be read
+abbrev pub first_state : (List ℕ → Option (List ℕ)) → List ℕ → ℕ → Page → State
+first_state contents file limit text = record {
   world = first_world;
-  rest = Text (fresh file (lines (without_mark text))) ∷ [];
+  rest = Text text ∷ [];
+  aside = [];
   kept = None;
   begun = 0;
   limit = limit;
   nesting = 0;
   place = before file;
+  conditionals = [];
+  job = file;
+  contents = contents;
 }
 
 abbrev pub status_of : End → Status
@@ -75,12 +84,12 @@ pub record IsOutcomeFrom (command : Command) (s : State) (all : Outcome) : Type 
   pub given : DecidesOn (digests s) answer
   pub is : IsOutcomeBy command answer all
 
-abbrev pub IsOutcomeOf : Request → Result (List ℕ) Status → Outcome → Type 0
-IsOutcomeOf request (Ok text) all = IsOutcomeFrom request.command (first_state request.file request.limit text) all
-IsOutcomeOf request (Err s) all = all ≡ refused s
+abbrev pub IsOutcomeOf : Request → (List ℕ → Option (List ℕ)) → Result Page Status → Outcome → Type 0
+IsOutcomeOf request contents (Ok text) all = IsOutcomeFrom request.command (first_state contents request.file request.limit text) all
+IsOutcomeOf request contents (Err s) all = all ≡ refused s
 
 abbrev pub IsOutcomeAsked : Result Request ℕ → (List ℕ → Option (List ℕ)) → Outcome → Type 0
-IsOutcomeAsked (Ok request) contents all = IsOutcomeOf request (text_of request.file (contents request.file)) all
+IsOutcomeAsked (Ok request) contents all = IsOutcomeOf request contents (main_text contents request.file) all
 IsOutcomeAsked (Err which) contents all = all ≡ refused (status.Usage which)
 
 -- the outcome of a run, by its words and what each name holds

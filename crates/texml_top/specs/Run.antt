@@ -2,6 +2,8 @@
 use Rattle.std.specs.Prelude.{◌≡◌, ◌≢◌, ℕ, List, [], ◌++◌, take, Result, Ok, Err}
 use Rattle.texml_base.specs.Outside.{Shelf, Ink, inked}
 use Rattle.texml_base.specs.Rising.{Rose}
+use Rattle.texml_base.specs.declared.files.Trouble.{Trouble}
+use Rattle.texml_base.specs.declared.files.Trouble.TheVariants as trouble
 use Rattle.texml_tree.specs.declared.model_fault.ModelFault.{ModelFault}
 use Rattle.texml_watch.specs.declared.record.Record.{Record}
 use Rattle.texml_watch.specs.Trace.{trace}
@@ -24,6 +26,11 @@ stopped (stop.Limit n) = Limit n
 stopped stop.ReadFailed = ReadFault
 stopped stop.TellFailed = WriteFault
 stopped stop.NoMemory = NoMemory
+
+-- the status of a run whose files can't be read
+abbrev pub unread : Trouble → Status
+unread trouble.Failed = ReadFault
+unread trouble.NoMemory = NoMemory
 
 -- the status of a run whose document can't be built
 abbrev pub unbuilt : BuildFault → Status

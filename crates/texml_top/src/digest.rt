@@ -4,9 +4,9 @@ ghost use Rattle.std.specs.Char.{IsScalar};
 ghost use Rattle.texml_token.specs.Numbers.{token_at, TokenWithin};
 ghost use Rattle.texml_scope.specs.Numbers.{meaning_at, MeaningWithin};
 ghost use Rattle.texml_expand.specs.State.{give};
-ghost use Rattle.texml_expand.specs.Contract.{Silent, outside, stop_after};
+ghost use Rattle.texml_expand.specs.Contract.{Local, outside, stop_after};
 ghost use Rattle.texml_expand.specs.Hearing.{hears, hears_part};
-ghost use Rattle.texml_expand.specs.Held.{state_of, Sound, Kept, ok_at};
+ghost use Rattle.texml_expand.specs.Held.{Sound, Kept, ok_at, Owns, SameFiles, Puts};
 ghost use Rattle.texml_assign.specs.Advance.{Advances};
 ghost use Rattle.texml_assign.specs.Doing.{Does};
 ghost use Rattle.texml_assign.specs.Loop.{On, loops};
@@ -54,10 +54,10 @@ pub fn digest<'c, 'a, F: Files, T: Teller>(
 ) -> Result<Document<'c, 'a>, Stop>
     requires running { engine.old.stop ≡ None }
     requires sound { Sound engine.old }
+    requires owns { Owns (F.shelf files.old) engine.old }
     requires fresh { ops ≡ [] }
     ensures does { Does (hears T.wanting T.heard) (hears_part T.wanting T.part) (loops digestion nothing_yet) result engine.old engine.new
-        (outside (F.faults files.old) (T.faults tell.old)) (outside (F.faults files.new) (T.faults tell.new)) tell.old tell.new }
-    ensures files { files.new ≡ files.old }
+        (outside (F.shelf files.old) (F.faults files.old) (T.faults tell.old) (T.loan tell.old)) (outside (F.shelf files.new) (F.faults files.new) (T.faults tell.new) (T.loan tell.new)) tell.old tell.new }
 {
     let mut seen = Gathered::new(alloc, ops);
     'rounds: loop {
@@ -83,10 +83,12 @@ fn end_of<'c, 'a>(
 ) -> Result<Document<'c, 'a>, Stop>
     requires running { engine.old.stop ≡ None }
     requires sound { Sound engine.old }
-    ensures gives { Silent (give (all_of seen.entry) (state_of engine.old)) result (state_of engine.new) }
+    ensures gives { Local (give (all_of seen.entry)) result engine.old engine.new }
     ensures kept { engine.new.stop ≡ stop_after result }
     ensures keeps { OnOk result (Kept engine.old engine.new) }
     ensures advances { Advances engine.old engine.new }
+    ensures files { SameFiles engine.old engine.new }
+    ensures puts { OnOk result (Puts 0 engine.old engine.new) }
 {
     match seen.finish(alloc) {
         Ok(ops) => Ok(ops),
@@ -105,10 +107,10 @@ fn digest_turn<F: Files, T: Teller>(
 ) -> Result<(), Stop>
     requires running { engine.old.stop ≡ None }
     requires sound { Sound engine.old }
+    requires owns { Owns (F.shelf files.old) engine.old }
     requires token { TokenWithin (length engine.old.names) token }
     ensures does { Does (hears T.wanting T.heard) (hears_part T.wanting T.part) (spec_digest_turn seen.old (token_at engine.old.names token)) (ok_at (λ _. On seen.new) result) engine.old engine.new
-        (outside (F.faults files.old) (T.faults tell.old)) (outside (F.faults files.new) (T.faults tell.new)) tell.old tell.new }
-    ensures files { files.new ≡ files.old }
+        (outside (F.shelf files.old) (F.faults files.old) (T.faults tell.old) (T.loan tell.old)) (outside (F.shelf files.new) (F.faults files.new) (T.faults tell.new) (T.loan tell.new)) tell.old tell.new }
 {
     let piece = digest_token(alloc, engine, files, tell, token)?;
     match seen.add(alloc, piece) {
@@ -127,10 +129,10 @@ fn digest_token<F: Files, T: Teller>(
 ) -> Result<Piece, Stop>
     requires running { engine.old.stop ≡ None }
     requires sound { Sound engine.old }
+    requires owns { Owns (F.shelf files.old) engine.old }
     requires token { TokenWithin (length engine.old.names) token }
     ensures does { Does (hears T.wanting T.heard) (hears_part T.wanting T.part) (spec_digest_token (token_at engine.old.names token)) (ok_at ops_of result) engine.old engine.new
-        (outside (F.faults files.old) (T.faults tell.old)) (outside (F.faults files.new) (T.faults tell.new)) tell.old tell.new }
-    ensures files { files.new ≡ files.old }
+        (outside (F.shelf files.old) (F.faults files.old) (T.faults tell.old) (T.loan tell.old)) (outside (F.shelf files.new) (F.faults files.new) (T.faults tell.new) (T.loan tell.new)) tell.old tell.new }
 {
     let done = execute(alloc, engine, files, tell, token)?;
     match done {
@@ -149,10 +151,10 @@ fn digest_left<F: Files, T: Teller>(
 ) -> Result<Piece, Stop>
     requires running { engine.old.stop ≡ None }
     requires sound { Sound engine.old }
+    requires owns { Owns (F.shelf files.old) engine.old }
     requires token { TokenWithin (length engine.old.names) token }
     ensures does { Does (hears T.wanting T.heard) (hears_part T.wanting T.part) (spec_digest_left (token_at engine.old.names token) NotMine) (ok_at ops_of result) engine.old engine.new
-        (outside (F.faults files.old) (T.faults tell.old)) (outside (F.faults files.new) (T.faults tell.new)) tell.old tell.new }
-    ensures files { files.new ≡ files.old }
+        (outside (F.shelf files.old) (F.faults files.old) (T.faults tell.old) (T.loan tell.old)) (outside (F.shelf files.new) (F.faults files.new) (T.faults tell.new) (T.loan tell.new)) tell.old tell.new }
 {
     let meaning = match engine.means(token) {
         Ok(meaning) => meaning,
@@ -171,10 +173,10 @@ fn digest_meaning<F: Files, T: Teller>(
 ) -> Result<Piece, Stop>
     requires running { engine.old.stop ≡ None }
     requires sound { Sound engine.old }
+    requires owns { Owns (F.shelf files.old) engine.old }
     requires meaning { MeaningWithin (length engine.old.names) meaning.now }
     ensures does { Does (hears T.wanting T.heard) (hears_part T.wanting T.part) (spec_digest_meaning (meaning_at engine.old.names meaning.now)) (ok_at ops_of result) engine.old engine.new
-        (outside (F.faults files.old) (T.faults tell.old)) (outside (F.faults files.new) (T.faults tell.new)) tell.old tell.new }
-    ensures files { files.new ≡ files.old }
+        (outside (F.shelf files.old) (F.faults files.old) (T.faults tell.old) (T.loan tell.old)) (outside (F.shelf files.new) (F.faults files.new) (T.faults tell.new) (T.loan tell.new)) tell.old tell.new }
 {
     match meaning {
         Meaning::Char(code, category) => digest_char(engine, *code, *category),
@@ -189,10 +191,12 @@ fn digest_char(engine: &mut Engine, code: u32, category: u8) -> Result<Piece, St
     requires running { engine.old.stop ≡ None }
     requires sound { Sound engine.old }
     requires scalar { IsScalar code }
-    ensures digests { Silent (spec_digest_char code category (state_of engine.old)) (ok_at ops_of result) (state_of engine.new) }
+    ensures digests { Local (spec_digest_char code category) (ok_at ops_of result) engine.old engine.new }
     ensures kept { engine.new.stop ≡ stop_after result }
     ensures keeps { OnOk result (Kept engine.old engine.new) }
     ensures advances { Advances engine.old engine.new }
+    ensures files { SameFiles engine.old engine.new }
+    ensures puts { OnOk result (Puts 0 engine.old engine.new) }
 {
     match category {
         category::SPACE => Ok(Piece::Space),
@@ -219,9 +223,9 @@ fn digest_word<F: Files, T: Teller>(
 ) -> Result<Piece, Stop>
     requires running { engine.old.stop ≡ None }
     requires sound { Sound engine.old }
+    requires owns { Owns (F.shelf files.old) engine.old }
     ensures does { Does (hears T.wanting T.heard) (hears_part T.wanting T.part) (spec_digest_word word) (ok_at ops_of result) engine.old engine.new
-        (outside (F.faults files.old) (T.faults tell.old)) (outside (F.faults files.new) (T.faults tell.new)) tell.old tell.new }
-    ensures files { files.new ≡ files.old }
+        (outside (F.shelf files.old) (F.faults files.old) (T.faults tell.old) (T.loan tell.old)) (outside (F.shelf files.new) (F.faults files.new) (T.faults tell.new) (T.loan tell.new)) tell.old tell.new }
 {
     match word {
         Word::ParagraphEnd => Ok(Piece::ParagraphEnd),
@@ -255,9 +259,9 @@ fn char_number<F: Files, T: Teller>(
 ) -> Result<Piece, Stop>
     requires running { engine.old.stop ≡ None }
     requires sound { Sound engine.old }
+    requires owns { Owns (F.shelf files.old) engine.old }
     ensures does { Does (hears T.wanting T.heard) (hears_part T.wanting T.part) spec_char_number (ok_at ops_of result) engine.old engine.new
-        (outside (F.faults files.old) (T.faults tell.old)) (outside (F.faults files.new) (T.faults tell.new)) tell.old tell.new }
-    ensures files { files.new ≡ files.old }
+        (outside (F.shelf files.old) (F.faults files.old) (T.faults tell.old) (T.loan tell.old)) (outside (F.shelf files.new) (F.faults files.new) (T.faults tell.new) (T.loan tell.new)) tell.old tell.new }
 {
     let code = engine.read_index(files, tell, Index::Character)?;
     Ok(Piece::Char(char_of(code)))
@@ -272,9 +276,9 @@ fn code<F: Files, T: Teller>(
 ) -> Result<Piece, Stop>
     requires running { engine.old.stop ≡ None }
     requires sound { Sound engine.old }
+    requires owns { Owns (F.shelf files.old) engine.old }
     ensures does { Does (hears T.wanting T.heard) (hears_part T.wanting T.part) spec_code (ok_at ops_of result) engine.old engine.new
-        (outside (F.faults files.old) (T.faults tell.old)) (outside (F.faults files.new) (T.faults tell.new)) tell.old tell.new }
-    ensures files { files.new ≡ files.old }
+        (outside (F.shelf files.old) (F.faults files.old) (T.faults tell.old) (T.loan tell.old)) (outside (F.shelf files.new) (F.faults files.new) (T.faults tell.new) (T.loan tell.new)) tell.old tell.new }
 {
     let text = verb(alloc, engine, files, tell)?;
     Ok(Piece::Code(text))
@@ -288,9 +292,9 @@ fn newline<F: Files, T: Teller>(
 ) -> Result<Piece, Stop>
     requires running { engine.old.stop ≡ None }
     requires sound { Sound engine.old }
+    requires owns { Owns (F.shelf files.old) engine.old }
     ensures does { Does (hears T.wanting T.heard) (hears_part T.wanting T.part) (λ n. spec_newline) (ok_at ops_of result) engine.old engine.new
-        (outside (F.faults files.old) (T.faults tell.old)) (outside (F.faults files.new) (T.faults tell.new)) tell.old tell.new }
-    ensures files { files.new ≡ files.old }
+        (outside (F.shelf files.old) (F.faults files.old) (T.faults tell.old) (T.loan tell.old)) (outside (F.shelf files.new) (F.faults files.new) (T.faults tell.new) (T.loan tell.new)) tell.old tell.new }
 {
     let _star = engine.read_sign(files, tell, STAR)?;
     let _space = engine.read_optional(files, tell)?;

@@ -13,7 +13,6 @@ mod document;
 mod gather;
 mod laws;
 mod request;
-mod source;
 mod start;
 mod status;
 mod table;

@@ -1,72 +1,56 @@
 // Starts an engine on a file.
-ghost use Rattle.std.specs.Prelude.{◌≡◌, ◌<◌, length, None, Some, IfOk};
-ghost use Rattle.std.specs.Str.{IsUtf8, chars};
-ghost use Rattle.texml_expand.specs.Held.{Sound, state_of};
-ghost use Rattle.texml_top.specs.Outcome.{text_of, first_state};
-ghost use Rattle.texml_top.specs.Start.{Starts, StartsOn, StartBlames};
+ghost use Rattle.std.specs.Prelude.{◌≡◌, [], None, IfOk, OnErr};
+ghost use Rattle.texml_expand.specs.Held.{Sound, Owns};
+ghost use Rattle.texml_top.specs.Start.{IsEmpty, Starts, StartBlames, SameOutside};
 
-use crate::source::read_whole;
 use crate::status::Status;
 use std::alloc::{AllocError, Global};
-use std::str;
-use texml_base::{Files, Trouble};
+use texml_base::Files;
 use texml_expand::Engine;
+use texml_input::open_text;
 use texml_scope::first_scope;
-use texml_token::fault_code::{MISSING_FILE, NOT_UTF8};
+use texml_token::fault_code::MISSING_FILE;
 use texml_token::{Bytes, Names};
 
-// An engine that stands before the first line of a file, in which so many expansions may begin.
+// An engine that stands before the first line of the file that a name means, in which so many expansions may begin. It holds the file
+// open; where it answers no engine nothing is open.
 pub fn start_engine<F: Files>(
     alloc: Global,
     files: &mut F,
     name: &str,
     limit: u64,
 ) -> Result<Engine, Status>
-    requires { length (F.shelf files.old).ids < 1000 }
-    ensures starts { Starts (F.shelf files.old) name.now limit result }
+    requires { (F.shelf files.old).ids ≡ [] }
+    ensures starts { Starts (F.shelf files.old) (F.shelf files.new) name.now limit result }
     ensures blames { StartBlames result (F.faults files.old) (F.faults files.new) }
     ensures limit { IfOk result (λ engine. engine.limit ≡ limit) }
     ensures running { IfOk result (λ engine. engine.stop ≡ None) }
     ensures sound { IfOk result Sound }
-    ensures closed { (F.shelf files.new).ids ≡ (F.shelf files.old).ids }
+    ensures owns { IfOk result (Owns (F.shelf files.new)) }
+    ensures same { SameOutside (F.shelf files.old) (F.shelf files.new) }
+    ensures closed { OnErr result ((F.shelf files.new).ids ≡ []) }
 {
-    let bytes = match read_whole(alloc, files, name) {
-        Ok(Some(bytes)) => bytes,
+    let mut engine = empty_engine(alloc, name, limit)?;
+    let file = match open_text(alloc, files, name) {
+        Ok(Some(file)) => file,
         Ok(None) => return Err(Status::fault(alloc, MISSING_FILE, name, name.as_bytes())),
-        Err(Trouble::Failed) => return Err(Status::ReadFault),
-        Err(Trouble::NoMemory) => return Err(Status::NoMemory),
+        Err(trouble) => return Err(Status::from(trouble)),
     };
-    start_on(alloc, name, &bytes, limit)
-}
-
-// An engine that stands before the first line of these bytes.
-fn start_on(alloc: Global, name: &str, bytes: &[u8], limit: u64) -> Result<Engine, Status>
-    ensures starts { StartsOn name.now limit (text_of name.now (Some bytes.now)) result }
-    ensures limit { IfOk result (λ engine. engine.limit ≡ limit) }
-    ensures running { IfOk result (λ engine. engine.stop ≡ None) }
-    ensures sound { IfOk result Sound }
-{
-    match str::from_utf8(bytes) {
-        Ok(_) => Ok(first_engine(alloc, name, bytes, limit)?),
-        Err(_) => Err(Status::fault(alloc, NOT_UTF8, name, b"")),
+    match engine.input().push_file(file.id, &file.name) {
+        Ok(()) => Ok(engine),
+        Err(_) => {
+            files.close_file(file.id);
+            Err(Status::NoMemory)
+        }
     }
 }
 
-// An engine in the first state of a text.
-fn first_engine(alloc: Global, name: &str, text: &[u8], limit: u64) -> Result<Engine, AllocError>
-    requires { IsUtf8 text.now }
-    ensures state { IfOk result (λ engine. state_of engine ≡ first_state name.now limit (chars text.now)) }
-    ensures limit { IfOk result (λ engine. engine.limit ≡ limit) }
-    ensures running { IfOk result (λ engine. engine.stop ≡ None) }
-    ensures sound { IfOk result Sound }
+// An engine that has nothing to read, in which names mean what they mean before the first line.
+fn empty_engine(alloc: Global, name: &str, limit: u64) -> Result<Engine, AllocError>
+    ensures { IfOk result (IsEmpty name.now limit) }
 {
-    let name = Bytes::from_slice(alloc, name.as_bytes())?;
-    let main = name.clone()?;
+    let main = Bytes::from_slice(alloc, name.as_bytes())?;
     let mut names = Names::new(alloc);
     let scope = first_scope(alloc, &mut names)?;
-    let mut engine = Engine::new(alloc, scope, names, main, limit);
-    match engine.push_text(&name, text) {
-        Ok(()) => Ok(engine),
-        Err(_) => Err(AllocError),
-    }
+    Ok(Engine::new(alloc, scope, names, main, limit))
 }

@@ -2,6 +2,7 @@
 ghost use Rattle.std.specs.Prelude.{◌≡◌};
 
 use std::alloc::{AllocError, Global};
+use texml_base::Trouble;
 use texml_build::BuildFault;
 use texml_expand::Stop;
 use texml_token::{Bytes, Fault};
@@ -35,6 +36,19 @@ impl From<AllocError> for Status {
 
     fn from(_: AllocError) -> Self {
         Status::NoMemory
+    }
+}
+
+impl From<Trouble> for Status {
+    ghost use Rattle.texml_top.specs.Run.{unread};
+
+    ghost from_gives = { λ trouble s. s ≡ unread trouble };
+
+    fn from(trouble: Trouble) -> Self {
+        match trouble {
+            Trouble::Failed => Status::ReadFault,
+            Trouble::NoMemory => Status::NoMemory,
+        }
     }
 }
 

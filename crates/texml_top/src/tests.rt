@@ -52,37 +52,38 @@ fn run_on(
 #[test]
 fn texts_have_their_first_fault(rt: HostRuntime) -> Result<(), Fail> {
     let alloc = rt.alloc();
-    // A text, its fault's number, and what the fault is about.
-    let rows: [(&[u8], u8, &str); 23] = [
-        (b"a}", 17, ""),
-        (b"a<b % c\n&\n", 18, ""),
-        (b"x^y", 18, ""),
-        (b"ok\n\n\xc3", 20, ""),
-        (b"a~b", 1, "~"),
-        (b"a\x7f\n", 15, ""),
-        (b"\\foo&", 1, "\\foo"),
-        (b"\\def\\a{x", 4, ""),
-        (b"\\def a{x}", 18, ""),
-        (b"\\def\\a#2{}", 14, ""),
-        (b"\\def\\a}", 22, ""),
-        (b"\\def\\a{#}", 14, ""),
-        (b"{\\def\\a{x}\\a}\\a", 1, "\\a"),
-        (b"\\begingroup}", 16, ""),
-        (b"{\\endgroup", 16, ""),
-        (b"\\endgroup", 17, ""),
-        (b"\\global x", 21, ""),
-        (b"\\long\\let\\a=b", 21, ""),
-        (b"\\global", 4, ""),
-        (b"\\let a\\b", 18, ""),
-        (b"\\let\\a", 4, ""),
-        (b"\\let\\a=~\\a", 1, "\\a"),
-        (b"\\afterassignment", 4, ""),
+    // A text, its fault's number, its line, and what the fault is about.
+    let rows: [(&[u8], u8, u64, &str); 23] = [
+        (b"a}", 17, 1, ""),
+        (b"a<b % c\n&\n", 18, 2, ""),
+        (b"x^y", 18, 1, ""),
+        (b"ok\n\n\xc3", 20, 3, ""),
+        (b"a~b", 1, 1, "~"),
+        (b"a\x7f\n\xff", 15, 1, ""),
+        (b"\\foo&", 1, 1, "\\foo"),
+        (b"\\def\\a{x", 4, 1, ""),
+        (b"\n\\def a{x}", 18, 2, ""),
+        (b"\\def\\a#2{}", 14, 1, ""),
+        (b"\\def\\a}", 22, 1, ""),
+        (b"\\def\\a{#}", 14, 1, ""),
+        (b"{\\def\\a{x}\\a}\n\\a", 1, 2, "\\a"),
+        (b"\\begingroup}", 16, 1, ""),
+        (b"{\\endgroup", 16, 1, ""),
+        (b"\\endgroup", 17, 1, ""),
+        (b"\\global x", 21, 1, ""),
+        (b"\\long\\let\\a=b", 21, 1, ""),
+        (b"\\global", 4, 1, ""),
+        (b"\\let a\\b", 18, 1, ""),
+        (b"\\let\\a", 4, 1, ""),
+        (b"\\let\\a=~\\a", 1, 1, "\\a"),
+        (b"\\afterassignment", 4, 1, ""),
     ];
-    for (text, code, about) in rows {
+    for (text, code, line, about) in rows {
         let (status, out) = run_on(alloc, &["convert", "main.tex"], text, 1000)?;
         match status {
             Status::Tex(fault) => {
                 assert_eq!(rt; fault.code, code);
+                assert_eq!(rt; fault.line, line);
                 assert_eq!(rt; fault.file.as_slice(), b"main.tex".as_slice());
                 assert_eq!(rt; fault.about.as_slice(), about.as_bytes());
                 assert_eq!(rt; out.bytes().len(), 0);

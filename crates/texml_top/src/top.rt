@@ -1,7 +1,7 @@
 //! The run.
 ghost use Rattle.std.specs.Prelude.{◌≡◌, ◌≢◌, [], map, string_bytes, IsTrue, None};
 ghost use Rattle.texml_base.specs.Rising.{Rose};
-ghost use Rattle.texml_expand.specs.Held.{Sound, state_of};
+ghost use Rattle.texml_expand.specs.Held.{Sound, Owns, Holding, state_of};
 ghost use Rattle.texml_top.specs.Request.{asked};
 ghost use Rattle.texml_top.specs.Outcome.{OfOutcome, FromState};
 ghost use Rattle.texml_top.specs.Run.{EndsAs, MayEnd, FilesBlamed, SinkBlamed, FitsWords, TouchesNothing, LimitIs, WritesLate, LateAsked, WritesDocument, DocumentAsked, WritesPage, PageAsked, WholeLines, LinesBy, LinesAsked};
@@ -67,7 +67,9 @@ pub fn run<F: Files, S: Sink, N: Sink>(
         Ok(engine) => engine,
         Err(status) => return status,
     };
-    perform(alloc, request.command, &mut engine, files, out)
+    let status = perform(alloc, request.command, &mut engine, files, out);
+    engine.input().close_all(files);
+    status
 }
 
 // Performs a command on what an engine is to read.
@@ -80,15 +82,16 @@ fn perform<F: Files, S: Sink>(
 ) -> Status
     requires running { engine.old.stop ≡ None }
     requires sound { Sound engine.old }
-    ensures meets { FromState command (state_of engine.old) (λ all. MayEnd result all (S.ink out.old) (S.ink out.new)) }
+    requires owns { Owns (F.shelf files.old) engine.old }
+    ensures meets { IsTrue (F.shelf files.old).tells → FromState command (state_of (F.shelf files.old) engine.old) (λ all. MayEnd result all (S.ink out.old) (S.ink out.new)) }
     ensures files_cause { FilesBlamed result (F.faults files.old) (F.faults files.new) }
     ensures out_cause { SinkBlamed result (S.faults out.old) (S.faults out.new) }
     ensures limit { LimitIs engine.old.limit result }
     ensures late { WritesLate command result (S.ink out.old) (S.ink out.new) }
-    ensures page { FromState command (state_of engine.old) (WritesPage command result) }
+    ensures page { IsTrue (F.shelf files.old).tells → FromState command (state_of (F.shelf files.old) engine.old) (WritesPage command result) }
     ensures document { WritesDocument command result (S.ink out.old) (S.ink out.new) }
-    ensures lines { (Rose (S.faults out.old) (S.faults out.new) → ⊥) → FromState command (state_of engine.old) (λ all. LinesBy command all (S.ink out.old) (S.ink out.new)) }
-    ensures files { files.new ≡ files.old }
+    ensures lines { IsTrue (F.shelf files.old).tells → (Rose (S.faults out.old) (S.faults out.new) → ⊥) → FromState command (state_of (F.shelf files.old) engine.old) (λ all. LinesBy command all (S.ink out.old) (S.ink out.new)) }
+    ensures holds { Holding (F.shelf files.old) (F.shelf files.new) engine.old engine.new }
 {
     match command {
         Command::Convert => convert(alloc, engine, files, out),
@@ -105,14 +108,15 @@ fn convert<F: Files, S: Sink>(
 ) -> Status
     requires running { engine.old.stop ≡ None }
     requires sound { Sound engine.old }
-    ensures meets { FromState Convert (state_of engine.old) (λ all. MayEnd result all (S.ink out.old) (S.ink out.new)) }
+    requires owns { Owns (F.shelf files.old) engine.old }
+    ensures meets { IsTrue (F.shelf files.old).tells → FromState Convert (state_of (F.shelf files.old) engine.old) (λ all. MayEnd result all (S.ink out.old) (S.ink out.new)) }
     ensures files_cause { FilesBlamed result (F.faults files.old) (F.faults files.new) }
     ensures out_cause { SinkBlamed result (S.faults out.old) (S.faults out.new) }
     ensures limit { LimitIs engine.old.limit result }
     ensures late { WritesLate Convert result (S.ink out.old) (S.ink out.new) }
-    ensures page { FromState Convert (state_of engine.old) (WritesPage Convert result) }
+    ensures page { IsTrue (F.shelf files.old).tells → FromState Convert (state_of (F.shelf files.old) engine.old) (WritesPage Convert result) }
     ensures document { WritesDocument Convert result (S.ink out.old) (S.ink out.new) }
-    ensures files { files.new ≡ files.old }
+    ensures holds { Holding (F.shelf files.old) (F.shelf files.new) engine.old engine.new }
 {
     let content = match model(alloc) {
         Ok(content) => content,
@@ -135,12 +139,13 @@ fn expand<F: Files, S: Sink>(
 ) -> Status
     requires running { engine.old.stop ≡ None }
     requires sound { Sound engine.old }
-    ensures meets { FromState Expand (state_of engine.old) (λ all. MayEnd result all (S.ink out.old) (S.ink out.new)) }
+    requires owns { Owns (F.shelf files.old) engine.old }
+    ensures meets { IsTrue (F.shelf files.old).tells → FromState Expand (state_of (F.shelf files.old) engine.old) (λ all. MayEnd result all (S.ink out.old) (S.ink out.new)) }
     ensures files_cause { FilesBlamed result (F.faults files.old) (F.faults files.new) }
     ensures out_cause { SinkBlamed result (S.faults out.old) (S.faults out.new) }
     ensures limit { LimitIs engine.old.limit result }
-    ensures lines { (Rose (S.faults out.old) (S.faults out.new) → ⊥) → FromState Expand (state_of engine.old) (λ all. WholeLines all (S.ink out.old) (S.ink out.new)) }
-    ensures files { files.new ≡ files.old }
+    ensures lines { IsTrue (F.shelf files.old).tells → (Rose (S.faults out.old) (S.faults out.new) → ⊥) → FromState Expand (state_of (F.shelf files.old) engine.old) (λ all. WholeLines all (S.ink out.old) (S.ink out.new)) }
+    ensures holds { Holding (F.shelf files.old) (F.shelf files.new) engine.old engine.new }
 {
     let mut lines = Lines::new(out);
     trace(alloc, engine, files, &mut lines)
@@ -155,14 +160,15 @@ fn trace<F: Files, S: Sink>(
 ) -> Status
     requires running { engine.old.stop ≡ None }
     requires sound { Sound engine.old }
+    requires owns { Owns (F.shelf files.old) engine.old }
     ensures loan { lines.new.sink.ghost_name ≡ lines.old.sink.ghost_name }
-    ensures meets { FromState Expand (state_of engine.old) (λ all. MayEnd result all (S.ink lines.old.sink.now) (S.ink lines.new.sink.now)) }
+    ensures meets { IsTrue (F.shelf files.old).tells → FromState Expand (state_of (F.shelf files.old) engine.old) (λ all. MayEnd result all (S.ink lines.old.sink.now) (S.ink lines.new.sink.now)) }
     ensures files_cause { FilesBlamed result (F.faults files.old) (F.faults files.new) }
     ensures out_cause { SinkBlamed result (S.faults lines.old.sink.now) (S.faults lines.new.sink.now) }
     ensures limit { LimitIs engine.old.limit result }
-    ensures whole { (Rose (S.faults lines.old.sink.now) (S.faults lines.new.sink.now) → ⊥)
-        → FromState Expand (state_of engine.old) (λ all. WholeLines all (S.ink lines.old.sink.now) (S.ink lines.new.sink.now)) }
-    ensures files { files.new ≡ files.old }
+    ensures whole { IsTrue (F.shelf files.old).tells → (Rose (S.faults lines.old.sink.now) (S.faults lines.new.sink.now) → ⊥)
+        → FromState Expand (state_of (F.shelf files.old) engine.old) (λ all. WholeLines all (S.ink lines.old.sink.now) (S.ink lines.new.sink.now)) }
+    ensures holds { Holding (F.shelf files.old) (F.shelf files.new) engine.old engine.new }
 {
     match digest(alloc, engine, files, lines, Document::unwanted()) {
         Ok(_) => Status::Done,

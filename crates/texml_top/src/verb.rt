@@ -4,9 +4,9 @@ ghost use Rattle.std.specs.Prelude.{◌≡◌, [], ◌∷◌, ◌++◌, length, 
 ghost use Rattle.std.specs.Char.{IsScalar, encode_utf8};
 ghost use Rattle.texml_token.specs.Numbers.{token_at, TokenWithin};
 ghost use Rattle.texml_expand.specs.State.{change};
-ghost use Rattle.texml_expand.specs.Contract.{Silent, outside, stop_after};
+ghost use Rattle.texml_expand.specs.Contract.{Local, outside, stop_after};
 ghost use Rattle.texml_expand.specs.Hearing.{hears, hears_part};
-ghost use Rattle.texml_expand.specs.Held.{state_of, Sound, Kept};
+ghost use Rattle.texml_expand.specs.Held.{Sound, Kept, Owns, SameFiles, Puts};
 ghost use Rattle.texml_assign.specs.Advance.{Advances};
 ghost use Rattle.texml_assign.specs.Doing.{Does};
 ghost use Rattle.texml_top.specs.Verb.{all_other, char_of as spec_char_of, next_char as spec_next_char, delimiter as spec_delimiter, text_to as spec_text_to, verb_text as spec_verb_text, begin_verb as spec_begin_verb, end_verb as spec_end_verb, verb as spec_verb};
@@ -40,9 +40,9 @@ pub fn verb<F: Files, T: Teller>(
 ) -> Result<Bytes, Stop>
     requires running { engine.old.stop ≡ None }
     requires sound { Sound engine.old }
+    requires owns { Owns (F.shelf files.old) engine.old }
     ensures does { Does (hears T.wanting T.heard) (hears_part T.wanting T.part) spec_verb result engine.old engine.new
-        (outside (F.faults files.old) (T.faults tell.old)) (outside (F.faults files.new) (T.faults tell.new)) tell.old tell.new }
-    ensures files { files.new ≡ files.old }
+        (outside (F.shelf files.old) (F.faults files.old) (T.faults tell.old) (T.loan tell.old)) (outside (F.shelf files.new) (F.faults files.new) (T.faults tell.new) (T.loan tell.new)) tell.old tell.new }
 {
     begin_verb(engine)?;
     let text = verb_text(alloc, engine, files, tell)?;
@@ -53,10 +53,12 @@ pub fn verb<F: Files, T: Teller>(
 fn begin_verb(engine: &mut Engine) -> Result<(), Stop>
     requires running { engine.old.stop ≡ None }
     requires sound { Sound engine.old }
-    ensures begins { Silent (spec_begin_verb (state_of engine.old)) result (state_of engine.new) }
+    ensures begins { Local spec_begin_verb result engine.old engine.new }
     ensures kept { engine.new.stop ≡ stop_after result }
     ensures keeps { OnOk result (Kept engine.old engine.new) }
     ensures advances { Advances engine.old engine.new }
+    ensures files { SameFiles engine.old engine.new }
+    ensures puts { OnOk result (Puts 0 engine.old engine.new) }
 {
     begin_group(engine, GroupKind::Begin)?;
     make_others(engine, &SPECIALS)
@@ -66,10 +68,12 @@ fn begin_verb(engine: &mut Engine) -> Result<(), Stop>
 fn end_verb(engine: &mut Engine, text: Bytes) -> Result<Bytes, Stop>
     requires running { engine.old.stop ≡ None }
     requires sound { Sound engine.old }
-    ensures ends { Silent (spec_end_verb text (state_of engine.old)) result (state_of engine.new) }
+    ensures ends { Local (spec_end_verb text) result engine.old engine.new }
     ensures kept { engine.new.stop ≡ stop_after result }
     ensures keeps { OnOk result (Kept engine.old engine.new) }
     ensures advances { Advances engine.old engine.new }
+    ensures files { SameFiles engine.old engine.new }
+    ensures puts { OnOk result (Puts 0 engine.old engine.new) }
 {
     end_group(engine, GroupKind::Begin)?;
     Ok(text)
@@ -79,10 +83,12 @@ fn end_verb(engine: &mut Engine, text: Bytes) -> Result<Bytes, Stop>
 fn make_others(engine: &mut Engine, characters: &[char]) -> Result<(), Stop>
     requires running { engine.old.stop ≡ None }
     requires sound { Sound engine.old }
-    ensures sets { Silent (change (all_other characters.now) (state_of engine.old)) result (state_of engine.new) }
+    ensures sets { Local (change (all_other characters.now)) result engine.old engine.new }
     ensures kept { engine.new.stop ≡ stop_after result }
     ensures keeps { OnOk result (Kept engine.old engine.new) }
     ensures advances { Advances engine.old engine.new }
+    ensures files { SameFiles engine.old engine.new }
+    ensures puts { OnOk result (Puts 0 engine.old engine.new) }
 {
     for character in characters {
         make_other(engine, *character)?;
@@ -94,10 +100,12 @@ fn make_others(engine: &mut Engine, characters: &[char]) -> Result<(), Stop>
 fn make_other(engine: &mut Engine, character: char) -> Result<(), Stop>
     requires running { engine.old.stop ≡ None }
     requires sound { Sound engine.old }
-    ensures sets { Silent (change (all_other (character ∷ [])) (state_of engine.old)) result (state_of engine.new) }
+    ensures sets { Local (change (all_other (character ∷ []))) result engine.old engine.new }
     ensures kept { engine.new.stop ≡ stop_after result }
     ensures keeps { OnOk result (Kept engine.old engine.new) }
     ensures advances { Advances engine.old engine.new }
+    ensures files { SameFiles engine.old engine.new }
+    ensures puts { OnOk result (Puts 0 engine.old engine.new) }
 {
     let mut steps = Steps::new();
     let key = Key::Cat(character as u32);
@@ -118,9 +126,9 @@ fn verb_text<F: Files, T: Teller>(
 ) -> Result<Bytes, Stop>
     requires running { engine.old.stop ≡ None }
     requires sound { Sound engine.old }
+    requires owns { Owns (F.shelf files.old) engine.old }
     ensures does { Does (hears T.wanting T.heard) (hears_part T.wanting T.part) spec_verb_text result engine.old engine.new
-        (outside (F.faults files.old) (T.faults tell.old)) (outside (F.faults files.new) (T.faults tell.new)) tell.old tell.new }
-    ensures files { files.new ≡ files.old }
+        (outside (F.shelf files.old) (F.faults files.old) (T.faults tell.old) (T.loan tell.old)) (outside (F.shelf files.new) (F.faults files.new) (T.faults tell.new) (T.loan tell.new)) tell.old tell.new }
 {
     let end = delimiter(engine, files, tell)?;
     text_to(alloc, engine, files, tell, end)
@@ -134,9 +142,9 @@ fn delimiter<F: Files, T: Teller>(
 ) -> Result<u32, Stop>
     requires running { engine.old.stop ≡ None }
     requires sound { Sound engine.old }
+    requires owns { Owns (F.shelf files.old) engine.old }
     ensures does { Does (hears T.wanting T.heard) (hears_part T.wanting T.part) (λ n. spec_delimiter) result engine.old engine.new
-        (outside (F.faults files.old) (T.faults tell.old)) (outside (F.faults files.new) (T.faults tell.new)) tell.old tell.new }
-    ensures files { files.new ≡ files.old }
+        (outside (F.shelf files.old) (F.faults files.old) (T.faults tell.old) (T.loan tell.old)) (outside (F.shelf files.new) (F.faults files.new) (T.faults tell.new) (T.loan tell.new)) tell.old tell.new }
 {
     let first = next_char(engine, files, tell)?;
     if first != STAR {
@@ -155,9 +163,9 @@ fn text_to<F: Files, T: Teller>(
 ) -> Result<Bytes, Stop>
     requires running { engine.old.stop ≡ None }
     requires sound { Sound engine.old }
+    requires owns { Owns (F.shelf files.old) engine.old }
     ensures does { Does (hears T.wanting T.heard) (hears_part T.wanting T.part) (spec_text_to end) result engine.old engine.new
-        (outside (F.faults files.old) (T.faults tell.old)) (outside (F.faults files.new) (T.faults tell.new)) tell.old tell.new }
-    ensures files { files.new ≡ files.old }
+        (outside (F.shelf files.old) (F.faults files.old) (T.faults tell.old) (T.loan tell.old)) (outside (F.shelf files.new) (F.faults files.new) (T.faults tell.new) (T.loan tell.new)) tell.old tell.new }
 {
     let mut text = Bytes::new(alloc);
     'tokens: loop {
@@ -184,9 +192,9 @@ fn next_char<F: Files, T: Teller>(
 ) -> Result<u32, Stop>
     requires running { engine.old.stop ≡ None }
     requires sound { Sound engine.old }
+    requires owns { Owns (F.shelf files.old) engine.old }
     ensures does { Does (hears T.wanting T.heard) (hears_part T.wanting T.part) (λ n. spec_next_char) result engine.old engine.new
-        (outside (F.faults files.old) (T.faults tell.old)) (outside (F.faults files.new) (T.faults tell.new)) tell.old tell.new }
-    ensures files { files.new ≡ files.old }
+        (outside (F.shelf files.old) (F.faults files.old) (T.faults tell.old) (T.loan tell.old)) (outside (F.shelf files.new) (F.faults files.new) (T.faults tell.new) (T.loan tell.new)) tell.old tell.new }
 {
     match token_or_end(engine, files, tell)? {
         Some(token) => char_of(engine, token),
@@ -199,7 +207,7 @@ fn char_of(engine: &mut Engine, token: Token) -> Result<u32, Stop>
     requires running { engine.old.stop ≡ None }
     requires sound { Sound engine.old }
     requires token { TokenWithin (length engine.old.names) token }
-    ensures gives { Silent (spec_char_of (token_at engine.old.names token) (state_of engine.old)) result (state_of engine.new) }
+    ensures gives { Local (spec_char_of (token_at engine.old.names token)) result engine.old engine.new }
     ensures kept { engine.new.stop ≡ stop_after result }
     ensures keeps { OnOk result (Kept engine.old engine.new) }
     ensures is { engine.new ≡ record engine.old { stop = engine.new.stop } }

@@ -39,6 +39,8 @@ impl<'a, S: Sink> Teller for Lines<'a, S> {
 
     ghost faults = { λ l. S.faults l.sink.now };
 
+    ghost loan = { λ l. l.sink.ghost_name };
+
     fn wants(&self) -> bool {
         true
     }
@@ -49,6 +51,7 @@ impl<'a, S: Sink> Teller for Lines<'a, S> {
     ///
     /// `Failed` only where the sink's count of faults rose in this call. A prefix of the line is written then. `NoMemory` never.
     fn tell(&mut self, news: &Record) -> Result<(), Trouble>
+        ensures loan { self.new.sink.ghost_name ≡ self.old.sink.ghost_name }
         ensures told { MatchResult result
             (λ _. Wrote (lent_by S.ink S.faults self.old) (trace_line news.now) (lent_by S.ink S.faults self.new))
             (λ _. BrokeOff (lent_by S.ink S.faults self.old) (trace_line news.now) (lent_by S.ink S.faults self.new)) }

@@ -18,6 +18,8 @@ impl Teller for Nobody {
 
     ghost faults = { λ _. 0 };
 
+    ghost loan = { λ _. 0 };
+
     fn wants(&self) -> bool {
         false
     }

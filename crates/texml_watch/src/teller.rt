@@ -20,6 +20,9 @@ pub trait Teller {
     /// How often it has failed. Only a telling that answers `Failed` changes it. It ends at the greatest u64.
     ghost faults: { Self → ℕ };
 
+    /// Which loan it holds: that of a sink, or 0 where it holds none. Being told changes nothing in that.
+    ghost loan: { Self → ℕ };
+
     /// Whether it wants records. Being told changes nothing in that.
     fn wants(&self) -> bool
         ensures { result ≡ wanting self.now };
@@ -31,6 +34,7 @@ pub trait Teller {
     /// `Failed` only where its count of faults rose in this call, and `NoMemory` where memory was refused.
     fn tell(&mut self, news: &Record) -> Result<(), Trouble>
         ensures wants { wanting self.new ≡ wanting self.old }
+        ensures loan { loan self.new ≡ loan self.old }
         ensures told { MatchResult result (λ _. heard self.old news.now self.new) (λ _. part self.old news.now self.new) }
         ensures cause { HasTroubleCause (faults self.old) (faults self.new) result };
 }

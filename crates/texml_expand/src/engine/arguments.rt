@@ -7,24 +7,30 @@ ghost use Rattle.texml_scope.specs.Numbers.{meaning_at, MacroWithin};
 ghost use Rattle.texml_match.specs.Shape.{ShapeWithin, shape_at, is_empty};
 ghost use Rattle.texml_match.specs.Arguments.{reading, argument as spec_argument};
 ghost use Rattle.texml_expand.specs.declared.feeding.Verdict.TheVariants.{TooShort};
-ghost use Rattle.texml_expand.specs.Feeding.{Feeds};
+ghost use Rattle.texml_expand.specs.Feeding.{FeedsTold, FedBy};
 ghost use Rattle.texml_expand.specs.Least.{inner_token as spec_inner_token};
 ghost use Rattle.texml_expand.specs.Absorb.{absorb as spec_absorb};
+ghost use Rattle.texml_expand.specs.Least.{by_least};
+ghost use Rattle.texml_expand.specs.Braces.{absorbed};
+ghost use Rattle.texml_expand.specs.Hearing.{hears, hears_part, FollowsTold};
 ghost use Rattle.texml_expand.specs.Arguments.{fault_number, read_by, is_sign as spec_is_sign, sign_or_back as spec_sign_or_back, sign as spec_sign, optional as spec_optional};
 ghost use Rattle.texml_expand.specs.Arguments.{means_space as spec_means_space, is_space as spec_is_space, behind_spaces as spec_behind_spaces, first_argument as spec_first_argument};
 ghost use Rattle.texml_expand.specs.Arguments.{macro_arguments as spec_macro_arguments, called as spec_called, read_argument as spec_read_argument, read_optional as spec_read_optional};
 ghost use Rattle.texml_expand.specs.Fronts.{macro_at};
-ghost use Rattle.texml_expand.specs.Held.{state_of, Sound, Kept, Progress, IsAtLimit, ok_at, read_at, ReadWithin};
-ghost use Rattle.texml_expand.specs.Contract.{Silent, AnswersKept, Lower, stop_after};
+ghost use Rattle.texml_expand.specs.Matched.{MatchedBy};
+ghost use Rattle.texml_expand.specs.Held.{state_of, world_in, Sound, Kept, Progress, IsAtLimit, ok_at, read_at, ReadWithin, Owns, Holding, SameFiles, Shrinks, Puts};
+ghost use Rattle.texml_expand.specs.Contract.{Local, Reads, AnswersKept, Stops, outside, files_at, stop_after};
+ghost use Rattle.texml_expand.specs.Doing.{Gets, Runs};
 
 use super::Engine;
 use crate::call::{CallArgs, fill};
 use crate::feeding::{Feeder, Verdict};
+use crate::gathering::Gathering;
 use crate::group::Group;
-use crate::rest::Read;
 use crate::stop::Stop;
 use std::alloc::AllocError;
 use texml_base::Files;
+use texml_input::Read;
 use texml_match::{ArgMatch, Args, Fed, MatchFault, Shape};
 use texml_scope::{Macro, Meaning};
 use texml_token::{Token, Tokens, category, fault_code};
@@ -36,35 +42,44 @@ const OPEN_BRACKET: u32 = 91;
 const CLOSE_BRACKET: u32 = 93;
 
 impl Engine {
-    /// Takes the tokens behind a brace that begins a group, unexpanded, up to the brace that ends it, and answers those before
-    /// that. It tells nobody and reads no file yet (The TeXbook, chapter 20).
+    /// Takes the tokens behind a brace that begins a group, up to the brace that ends it, and answers those before that: as they
+    /// stand, or expanded. Where they are expanded, what `\the` gives of a list of tokens is taken as it is, with each parameter
+    /// character twice, and each completed expansion is told to `tell`, where that wants records (The TeXbook, chapter 20).
     ///
     /// # Errors
     ///
-    /// `Tex` with fault 4 where a text ends inside the group, and with fault 15 where an invalid character stands in it.
-    /// `NoMemory` where memory was refused, and the stop that is kept.
+    /// `Tex` with fault 4 where a text ends inside the group, and with fault 15 where an invalid character stands in it; where
+    /// tokens are expanded, those of `fetch`. `ReadFailed` only where the count of faults of `files` rose in this call, `NoMemory`
+    /// where memory was refused, and the stop that is kept.
     pub fn absorb<F: Files, T: Teller>(
         &mut self,
         files: &mut F,
         tell: &mut T,
+        expanding: bool,
     ) -> Result<Tokens, Stop>
-        requires { self.old.stop ≡ None → Sound self.old }
-        ensures absorbs { self.old.stop ≡ None → Silent (spec_absorb (state_of self.old)) (ok_at (tokens_at self.new.names) result) (state_of self.new) }
-        ensures kept { self.old.stop ≡ None → self.new.stop ≡ stop_after result }
-        ensures lower { self.old.stop ≡ None → IfOk result (λ list. Lower (length list + 1) (state_of self.old) (state_of self.new)) }
+        requires sound { self.old.stop ≡ None → Sound self.old }
+        requires owns { Owns (F.shelf files.old) self.old }
+        ensures follows { self.old.stop ≡ None → FollowsTold (hears T.wanting T.heard) (hears_part T.wanting T.part) (F.shelf files.old) (λ n. spec_absorb expanding n (state_of (F.shelf files.old) self.old))
+            (ok_at (tokens_at self.new.names) result) (state_of (F.shelf files.new) self.new) tell.old tell.new }
+        ensures stops { self.old.stop ≡ None → Stops result (outside (F.shelf files.old) (F.faults files.old) (T.faults tell.old) (T.loan tell.old)) (outside (F.shelf files.new) (F.faults files.new) (T.faults tell.new) (T.loan tell.new)) self.new.stop }
+        ensures lower { self.old.stop ≡ None → IfOk result (λ list. Shrinks (length list + 1) (F.shelf files.old) self.old (F.shelf files.new) self.new) }
         ensures progress { Progress self.old self.new }
+        ensures limit { self.old.stop ≡ None → IsAtLimit result self.new }
         ensures keeps { self.old.stop ≡ None → OnOk result (Kept self.old self.new) }
         ensures within { self.old.stop ≡ None → IfOk result (TokensWithin (length self.new.names)) }
-        ensures stays { IfSome self.old.stop (λ stop. AnswersKept stop result × (self.new ≡ self.old)) }
-        ensures files { files.new ≡ files.old }
-        ensures tell { tell.new ≡ tell.old }
+        ensures stays { IfSome self.old.stop (λ stop. AnswersKept stop result × (self.new ≡ self.old) × (files.new ≡ files.old) × (tell.new ≡ tell.old)) }
+        ensures holds { Holding (F.shelf files.old) (F.shelf files.new) self.old self.new }
     {
         self.running()?;
-        self.absorb_group()
+        if expanding {
+            self.gather(files, tell, Gathering::Group, 0)
+        } else {
+            self.absorb_group(files)
+        }
     }
 
     /// Takes an argument, unexpanded: a token, or the tokens of a group in braces, without these; space tokens before it go.
-    /// `\par` may stand in it. It tells nobody and reads no file yet (The TeXbook, chapter 20).
+    /// `\par` may stand in it. It tells nobody (The TeXbook, chapter 20).
     ///
     /// # Errors
     ///
@@ -76,26 +91,28 @@ impl Engine {
         files: &mut F,
         tell: &mut T,
     ) -> Result<Tokens, Stop>
-        requires { self.old.stop ≡ None → Sound self.old }
-        ensures reads { self.old.stop ≡ None → Silent (spec_read_argument (state_of self.old)) (ok_at (tokens_at self.new.names) result) (state_of self.new) }
-        ensures kept { self.old.stop ≡ None → self.new.stop ≡ stop_after result }
-        ensures lower { self.old.stop ≡ None → IfOk result (λ list. Lower (length list) (state_of self.old) (state_of self.new)) }
+        requires sound { self.old.stop ≡ None → Sound self.old }
+        requires owns { Owns (F.shelf files.old) self.old }
+        ensures reads { self.old.stop ≡ None → Reads (F.shelf files.old) (spec_read_argument (state_of (F.shelf files.old) self.old)) (ok_at (tokens_at self.new.names) result) (state_of (F.shelf files.new) self.new) }
+        ensures stops { self.old.stop ≡ None → Stops result (outside (F.shelf files.old) (F.faults files.old) (T.faults tell.old) (T.loan tell.old)) (outside (F.shelf files.new) (F.faults files.new) (T.faults tell.new) (T.loan tell.new)) self.new.stop }
+        ensures lower { self.old.stop ≡ None → IfOk result (λ list. Shrinks (length list) (F.shelf files.old) self.old (F.shelf files.new) self.new) }
         ensures progress { Progress self.old self.new }
+        ensures limit { self.old.stop ≡ None → IsAtLimit result self.new }
         ensures keeps { self.old.stop ≡ None → OnOk result (Kept self.old self.new) }
         ensures within { self.old.stop ≡ None → IfOk result (TokensWithin (length self.new.names)) }
-        ensures stays { IfSome self.old.stop (λ stop. AnswersKept stop result × (self.new ≡ self.old)) }
-        ensures files { files.new ≡ files.old }
+        ensures stays { IfSome self.old.stop (λ stop. AnswersKept stop result × (self.new ≡ self.old) × (files.new ≡ files.old)) }
+        ensures holds { Holding (F.shelf files.old) (F.shelf files.new) self.old self.new }
         ensures tell { tell.new ≡ tell.old }
     {
         self.running()?;
         let delimiter = Tokens::new(self.alloc);
-        self.argument(true, delimiter)
+        self.argument(files, true, delimiter)
     }
 
     /// Takes the spaces that come next, and where the character `[` of category 12 comes behind them, this and the argument up to a
     /// `]` outside groups, which goes too; all that unexpanded. `\par` may stand in the argument, which loses its braces where
     /// it is one group. Where no such `[` comes, it answers `None`, and the token that comes stays as it was. A text that
-    /// ends before the `[` is passed over. It tells nobody and reads no file yet (The TeXbook, chapter 20).
+    /// ends before the `[` is passed over. It tells nobody (The TeXbook, chapter 20).
     ///
     /// # Errors
     ///
@@ -107,23 +124,24 @@ impl Engine {
         files: &mut F,
         tell: &mut T,
     ) -> Result<Option<Tokens>, Stop>
-        requires { self.old.stop ≡ None → Sound self.old }
-        ensures reads { self.old.stop ≡ None → Silent (spec_read_optional (state_of self.old)) (ok_at (option_map (tokens_at self.new.names)) result) (state_of self.new) }
-        ensures kept { self.old.stop ≡ None → self.new.stop ≡ stop_after result }
-        ensures lower { self.old.stop ≡ None → IfOk result (λ o. Lower (length (unwrap_or o [])) (state_of self.old) (state_of self.new)) }
+        requires sound { self.old.stop ≡ None → Sound self.old }
+        requires owns { Owns (F.shelf files.old) self.old }
+        ensures reads { self.old.stop ≡ None → Reads (F.shelf files.old) (spec_read_optional (state_of (F.shelf files.old) self.old)) (ok_at (option_map (tokens_at self.new.names)) result) (state_of (F.shelf files.new) self.new) }
+        ensures stops { self.old.stop ≡ None → Stops result (outside (F.shelf files.old) (F.faults files.old) (T.faults tell.old) (T.loan tell.old)) (outside (F.shelf files.new) (F.faults files.new) (T.faults tell.new) (T.loan tell.new)) self.new.stop }
+        ensures lower { self.old.stop ≡ None → IfOk result (λ o. Shrinks (length (unwrap_or o [])) (F.shelf files.old) self.old (F.shelf files.new) self.new) }
         ensures progress { Progress self.old self.new }
+        ensures limit { self.old.stop ≡ None → IsAtLimit result self.new }
         ensures keeps { self.old.stop ≡ None → OnOk result (Kept self.old self.new) }
         ensures within { self.old.stop ≡ None → IfOk result (OptionWithin (TokensWithin (length self.new.names))) }
-        ensures stays { IfSome self.old.stop (λ stop. AnswersKept stop result × (self.new ≡ self.old)) }
-        ensures files { files.new ≡ files.old }
+        ensures stays { IfSome self.old.stop (λ stop. AnswersKept stop result × (self.new ≡ self.old) × (files.new ≡ files.old)) }
+        ensures holds { Holding (F.shelf files.old) (F.shelf files.new) self.old self.new }
         ensures tell { tell.new ≡ tell.old }
     {
         self.running()?;
-        self.optional(true)
+        self.optional(files, true)
     }
 
-    /// Feeds the next tokens, unexpanded, until they decide, and answers what they yield. It tells nobody and reads no file
-    /// yet.
+    /// Feeds the next tokens, unexpanded, until they decide, and answers what they yield. It tells nobody.
     ///
     /// # Errors
     ///
@@ -136,22 +154,25 @@ impl Engine {
         feeder: &mut D,
     ) -> Result<V, Stop>
         requires sound { self.old.stop ≡ None → Sound self.old }
+        requires owns { Owns (F.shelf files.old) self.old }
         requires short { self.old.stop ≡ None → (texts : Table) → D.judge feeder.old texts [] ≡ TooShort }
-        ensures feeds { self.old.stop ≡ None → Feeds (D.judge feeder.old) (state_of self.old) result self.new }
-        ensures kept { self.old.stop ≡ None → self.new.stop ≡ stop_after result }
+        ensures feeds { self.old.stop ≡ None → FeedsTold (D.judge feeder.old) (state_of (F.shelf files.old) self.old) (F.shelf files.old) result self.new.names (state_of (F.shelf files.new) self.new) }
+        ensures lower { self.old.stop ≡ None → IfOk result (λ v. FedBy (D.judge feeder.old) v (F.shelf files.old) self.old (F.shelf files.new) self.new) }
+        ensures stops { self.old.stop ≡ None → Stops result (outside (F.shelf files.old) (F.faults files.old) (T.faults tell.old) (T.loan tell.old)) (outside (F.shelf files.new) (F.faults files.new) (T.faults tell.new) (T.loan tell.new)) self.new.stop }
         ensures progress { Progress self.old self.new }
+        ensures limit { self.old.stop ≡ None → IsAtLimit result self.new }
         ensures keeps { self.old.stop ≡ None → OnOk result (Kept self.old self.new) }
-        ensures stays { IfSome self.old.stop (λ stop. AnswersKept stop result × (self.new ≡ self.old)) }
-        ensures files { files.new ≡ files.old }
+        ensures stays { IfSome self.old.stop (λ stop. AnswersKept stop result × (self.new ≡ self.old) × (files.new ≡ files.old)) }
+        ensures holds { Holding (F.shelf files.old) (F.shelf files.new) self.old self.new }
         ensures tell { tell.new ≡ tell.old }
     {
         self.running()?;
-        self.feed(feeder)
+        self.feed(files, feeder)
     }
 
     /// Takes the spaces that come next, and where this character of category 12 comes behind them, this too, and answers whether
     /// it came; all that unexpanded. Another token that comes stays as it was, and a text that ends before it is passed over. It
-    /// tells nobody and reads no file yet.
+    /// tells nobody.
     ///
     /// # Errors
     ///
@@ -163,36 +184,36 @@ impl Engine {
         tell: &mut T,
         code: u32,
     ) -> Result<bool, Stop>
-        requires { self.old.stop ≡ None → Sound self.old }
-        ensures reads { self.old.stop ≡ None → Silent (spec_sign code (state_of self.old)) result (state_of self.new) }
-        ensures kept { self.old.stop ≡ None → self.new.stop ≡ stop_after result }
+        requires sound { self.old.stop ≡ None → Sound self.old }
+        requires owns { Owns (F.shelf files.old) self.old }
+        ensures reads { self.old.stop ≡ None → Reads (F.shelf files.old) (spec_sign code (state_of (F.shelf files.old) self.old)) result (state_of (F.shelf files.new) self.new) }
+        ensures lower { self.old.stop ≡ None → OnOk result (Shrinks 0 (F.shelf files.old) self.old (F.shelf files.new) self.new) }
+        ensures stops { self.old.stop ≡ None → Stops result (outside (F.shelf files.old) (F.faults files.old) (T.faults tell.old) (T.loan tell.old)) (outside (F.shelf files.new) (F.faults files.new) (T.faults tell.new) (T.loan tell.new)) self.new.stop }
         ensures progress { Progress self.old self.new }
+        ensures limit { self.old.stop ≡ None → IsAtLimit result self.new }
         ensures keeps { self.old.stop ≡ None → OnOk result (Kept self.old self.new) }
-        ensures stays { IfSome self.old.stop (λ stop. AnswersKept stop result × (self.new ≡ self.old)) }
-        ensures files { files.new ≡ files.old }
+        ensures stays { IfSome self.old.stop (λ stop. AnswersKept stop result × (self.new ≡ self.old) × (files.new ≡ files.old)) }
+        ensures holds { Holding (F.shelf files.old) (F.shelf files.new) self.old self.new }
         ensures tell { tell.new ≡ tell.old }
     {
         self.running()?;
-        self.sign(code)
+        self.sign(files, code)
     }
 
     // What the call of a macro gives: its body, with the arguments that are read in their places.
-    pub(super) fn called(&mut self, found: Macro) -> Result<Tokens, Stop>
+    pub(super) fn called<F: Files>(&mut self, files: &mut F, found: Macro) -> Result<Tokens, Stop>
         requires running { self.old.stop ≡ None }
         requires sound { Sound self.old }
+        requires owns { Owns (F.shelf files.old) self.old }
         requires found { MacroWithin (length self.old.names) found }
-        ensures gives { Silent (spec_called (macro_at self.old.names found) (state_of self.old)) (ok_at (tokens_at self.new.names) result) (state_of self.new) }
-        ensures kept { self.new.stop ≡ stop_after result }
-        ensures lower { OnOk result (Lower 0 (state_of self.old) (state_of self.new)) }
-        ensures progress { Progress self.old self.new }
-        ensures limit { IsAtLimit result self.new }
-        ensures keeps { OnOk result (Kept self.old self.new) }
+        ensures gets { Gets (spec_called (macro_at self.old.names found)) (ok_at (tokens_at self.new.names) result) self.old self.new (files_at (F.shelf files.old) (F.faults files.old)) (files_at (F.shelf files.new) (F.faults files.new)) }
+        ensures lower { OnOk result (Shrinks 0 (F.shelf files.old) self.old (F.shelf files.new) self.new) }
         ensures within { IfOk result (TokensWithin (length self.new.names)) }
     {
         if found.params.pieces.as_slice().is_empty() {
             return Ok(found.body);
         }
-        let args = self.macro_arguments(&found)?;
+        let args = self.macro_arguments(files, &found)?;
         match fill(self.alloc, found.body.as_slice(), &args) {
             Ok(list) => Ok(list),
             Err(_) => Err(self.no_memory()),
@@ -200,46 +221,43 @@ impl Engine {
     }
 
     // The arguments that stand behind the call of a macro.
-    fn macro_arguments(&mut self, found: &Macro) -> Result<CallArgs, Stop>
+    fn macro_arguments<F: Files>(&mut self, files: &mut F, found: &Macro) -> Result<CallArgs, Stop>
         requires running { self.old.stop ≡ None }
         requires sound { Sound self.old }
+        requires owns { Owns (F.shelf files.old) self.old }
         requires found { MacroWithin (length self.old.names) found.now }
-        ensures reads { Silent (spec_macro_arguments (macro_at self.old.names found.now) (state_of self.old)) (ok_at (map (tokens_at self.new.names)) result) (state_of self.new) }
-        ensures kept { self.new.stop ≡ stop_after result }
-        ensures progress { Progress self.old self.new }
-        ensures limit { IsAtLimit result self.new }
-        ensures keeps { OnOk result (Kept self.old self.new) }
+        ensures gets { Gets (spec_macro_arguments (macro_at self.old.names found.now)) (ok_at (map (tokens_at self.new.names)) result) self.old self.new (files_at (F.shelf files.old) (F.faults files.old)) (files_at (F.shelf files.new) (F.faults files.new)) }
+        ensures lower { OnOk result (Shrinks 0 (F.shelf files.old) self.old (F.shelf files.new) self.new) }
         ensures within { IfOk result (All (TokensWithin (length self.new.names))) }
     {
-        let first = self.first_argument(found.long, &found.params.default)?;
+        let first = self.first_argument(files, found.long, &found.params.default)?;
         let shape = match Shape::new(self.alloc, &found.params, found.long) {
             Ok(shape) => shape,
             Err(_) => return Err(self.no_memory()),
         };
-        let others = self.arguments(&shape)?;
+        let others = self.arguments(files, &shape)?;
         Ok(CallArgs::new(first, others))
     }
 
     // The first argument of a macro where it has a default, which is that in brackets or else the default.
-    fn first_argument(
+    fn first_argument<F: Files>(
         &mut self,
+        files: &mut F,
         long: bool,
         default: &Option<Tokens>,
     ) -> Result<Option<Tokens>, Stop>
         requires running { self.old.stop ≡ None }
         requires sound { Sound self.old }
+        requires owns { Owns (F.shelf files.old) self.old }
         requires default { OptionWithin (TokensWithin (length self.old.names)) default.now }
-        ensures reads { Silent (spec_first_argument long (option_map (tokens_at self.old.names) default.now) (state_of self.old)) (ok_at (λ o. map (tokens_at self.new.names) (option_to_list o)) result) (state_of self.new) }
-        ensures kept { self.new.stop ≡ stop_after result }
-        ensures progress { Progress self.old self.new }
-        ensures limit { IsAtLimit result self.new }
-        ensures keeps { OnOk result (Kept self.old self.new) }
+        ensures gets { Gets (spec_first_argument long (option_map (tokens_at self.old.names) default.now)) (ok_at (λ o. map (tokens_at self.new.names) (option_to_list o)) result) self.old self.new (files_at (F.shelf files.old) (F.faults files.old)) (files_at (F.shelf files.new) (F.faults files.new)) }
+        ensures lower { OnOk result (Shrinks 0 (F.shelf files.old) self.old (F.shelf files.new) self.new) }
         ensures within { IfOk result (OptionWithin (TokensWithin (length self.new.names))) }
     {
         let Some(default) = default else {
             return Ok(None);
         };
-        if let Some(list) = self.optional(long)? {
+        if let Some(list) = self.optional(files, long)? {
             return Ok(Some(list));
         }
         match default.clone() {
@@ -249,39 +267,35 @@ impl Engine {
     }
 
     // The arguments that a shape asks for.
-    fn arguments(&mut self, shape: &Shape) -> Result<Args, Stop>
+    fn arguments<F: Files>(&mut self, files: &mut F, shape: &Shape) -> Result<Args, Stop>
         requires running { self.old.stop ≡ None }
         requires sound { Sound self.old }
+        requires owns { Owns (F.shelf files.old) self.old }
         requires shape { ShapeWithin (length self.old.names) shape.now }
-        ensures reads { Silent (read_by (reading (shape_at self.old.names shape.now)) (state_of self.old)) (ok_at (map (tokens_at self.new.names)) result) (state_of self.new) }
-        ensures kept { self.new.stop ≡ stop_after result }
-        ensures progress { Progress self.old self.new }
-        ensures limit { IsAtLimit result self.new }
-        ensures keeps { OnOk result (Kept self.old self.new) }
+        ensures gets { Gets (read_by (reading (shape_at self.old.names shape.now))) (ok_at (map (tokens_at self.new.names)) result) self.old self.new (files_at (F.shelf files.old) (F.faults files.old)) (files_at (F.shelf files.new) (F.faults files.new)) }
+        ensures lower { OnOk result (Shrinks 0 (F.shelf files.old) self.old (F.shelf files.new) self.new) }
         ensures within { IfOk result (All (TokensWithin (length self.new.names))) }
     {
         if shape.is_empty() {
             return Ok(Args::new(self.alloc));
         }
-        self.match_shape(shape)
+        self.match_shape(files, shape)
     }
 
     // The arguments that a shape asks for, where it asks for something.
-    fn match_shape(&mut self, shape: &Shape) -> Result<Args, Stop>
+    fn match_shape<F: Files>(&mut self, files: &mut F, shape: &Shape) -> Result<Args, Stop>
         requires running { self.old.stop ≡ None }
         requires sound { Sound self.old }
+        requires owns { Owns (F.shelf files.old) self.old }
         requires shape { ShapeWithin (length self.old.names) shape.now }
         requires some { is_empty shape.now ≡ false }
-        ensures reads { Silent (read_by (reading (shape_at self.old.names shape.now)) (state_of self.old)) (ok_at (map (tokens_at self.new.names)) result) (state_of self.new) }
-        ensures kept { self.new.stop ≡ stop_after result }
-        ensures progress { Progress self.old self.new }
-        ensures limit { IsAtLimit result self.new }
-        ensures keeps { OnOk result (Kept self.old self.new) }
+        ensures gets { Gets (read_by (reading (shape_at self.old.names shape.now))) (ok_at (map (tokens_at self.new.names)) result) self.old self.new (files_at (F.shelf files.old) (F.faults files.old)) (files_at (F.shelf files.new) (F.faults files.new)) }
+        ensures lower { IfOk result (λ args. MatchedBy shape.now args (F.shelf files.old) self.old (F.shelf files.new) self.new) }
         ensures within { IfOk result (All (TokensWithin (length self.new.names))) }
     {
         let mut matcher = ArgMatch::new(self.alloc);
         'tokens: loop {
-            let token = self.inner_token()?;
+            let token = self.inner_token(files)?;
             match matcher.feed(shape, token, &self.names) {
                 Fed::More => {}
                 Fed::All(args) => return Ok(args),
@@ -292,22 +306,25 @@ impl Engine {
     }
 
     // One argument with these tokens behind it.
-    fn argument(&mut self, long: bool, delimiter: Tokens) -> Result<Tokens, Stop>
+    fn argument<F: Files>(
+        &mut self,
+        files: &mut F,
+        long: bool,
+        delimiter: Tokens,
+    ) -> Result<Tokens, Stop>
         requires running { self.old.stop ≡ None }
         requires sound { Sound self.old }
+        requires owns { Owns (F.shelf files.old) self.old }
         requires delimiter { TokensWithin (length self.old.names) delimiter }
-        ensures reads { Silent (read_by (spec_argument long (tokens_at self.old.names delimiter)) (state_of self.old)) (ok_at (tokens_at self.new.names) result) (state_of self.new) }
-        ensures kept { self.new.stop ≡ stop_after result }
-        ensures progress { Progress self.old self.new }
-        ensures limit { IsAtLimit result self.new }
-        ensures keeps { OnOk result (Kept self.old self.new) }
+        ensures gets { Gets (read_by (spec_argument long (tokens_at self.old.names delimiter))) (ok_at (tokens_at self.new.names) result) self.old self.new (files_at (F.shelf files.old) (F.faults files.old)) (files_at (F.shelf files.new) (F.faults files.new)) }
+        ensures lower { IfOk result (λ list. Shrinks (length list) (F.shelf files.old) self.old (F.shelf files.new) self.new) }
         ensures within { IfOk result (TokensWithin (length self.new.names)) }
     {
         let shape = match Shape::of_one(self.alloc, delimiter, long) {
             Ok(shape) => shape,
             Err(_) => return Err(self.no_memory()),
         };
-        let args = self.match_shape(&shape)?;
+        let args = self.match_shape(files, &shape)?;
         match first_of(&args) {
             Ok(list) => Ok(list),
             Err(_) => Err(self.no_memory()),
@@ -315,17 +332,15 @@ impl Engine {
     }
 
     // The argument in brackets behind spaces, where there is one.
-    fn optional(&mut self, long: bool) -> Result<Option<Tokens>, Stop>
+    fn optional<F: Files>(&mut self, files: &mut F, long: bool) -> Result<Option<Tokens>, Stop>
         requires running { self.old.stop ≡ None }
         requires sound { Sound self.old }
-        ensures reads { Silent (spec_optional long (state_of self.old)) (ok_at (option_map (tokens_at self.new.names)) result) (state_of self.new) }
-        ensures kept { self.new.stop ≡ stop_after result }
-        ensures progress { Progress self.old self.new }
-        ensures limit { IsAtLimit result self.new }
-        ensures keeps { OnOk result (Kept self.old self.new) }
+        requires owns { Owns (F.shelf files.old) self.old }
+        ensures gets { Gets (spec_optional long) (ok_at (option_map (tokens_at self.new.names)) result) self.old self.new (files_at (F.shelf files.old) (F.faults files.old)) (files_at (F.shelf files.new) (F.faults files.new)) }
+        ensures lower { IfOk result (λ o. Shrinks (length (unwrap_or o [])) (F.shelf files.old) self.old (F.shelf files.new) self.new) }
         ensures within { IfOk result (OptionWithin (TokensWithin (length self.new.names))) }
     {
-        if !self.sign(OPEN_BRACKET)? {
+        if !self.sign(files, OPEN_BRACKET)? {
             return Ok(None);
         }
         let delimiter = match Tokens::from_slice(
@@ -335,21 +350,19 @@ impl Engine {
             Ok(delimiter) => delimiter,
             Err(_) => return Err(self.no_memory()),
         };
-        let argument = self.argument(long, delimiter)?;
+        let argument = self.argument(files, long, delimiter)?;
         Ok(Some(argument))
     }
 
     // Whether a sign comes behind spaces, which is taken with them; else the spaces alone are.
-    fn sign(&mut self, code: u32) -> Result<bool, Stop>
+    fn sign<F: Files>(&mut self, files: &mut F, code: u32) -> Result<bool, Stop>
         requires running { self.old.stop ≡ None }
         requires sound { Sound self.old }
-        ensures reads { Silent (spec_sign code (state_of self.old)) result (state_of self.new) }
-        ensures kept { self.new.stop ≡ stop_after result }
-        ensures progress { Progress self.old self.new }
-        ensures limit { IsAtLimit result self.new }
-        ensures keeps { OnOk result (Kept self.old self.new) }
+        requires owns { Owns (F.shelf files.old) self.old }
+        ensures gets { Gets (spec_sign code) result self.old self.new (files_at (F.shelf files.old) (F.faults files.old)) (files_at (F.shelf files.new) (F.faults files.new)) }
+        ensures lower { OnOk result (Shrinks 0 (F.shelf files.old) self.old (F.shelf files.new) self.new) }
     {
-        match self.behind_spaces()? {
+        match self.behind_spaces(files)? {
             None => Ok(false),
             Some(read) => self.sign_or_back(code, read),
         }
@@ -360,34 +373,34 @@ impl Engine {
         requires running { self.old.stop ≡ None }
         requires sound { Sound self.old }
         requires token { TokenWithin (length self.old.names) read.token }
-        ensures reads { Silent (spec_sign_or_back code (Some (read_at self.old.names read)) (state_of self.old)) result (state_of self.new) }
+        ensures reads { Local (spec_sign_or_back code (Some (read_at self.old.names read))) result self.old self.new }
+        ensures lower { OnOk result (Puts 1 self.old self.new) }
         ensures kept { self.new.stop ≡ stop_after result }
         ensures progress { Progress self.old self.new }
         ensures limit { IsAtLimit result self.new }
+        ensures files { SameFiles self.old self.new }
         ensures keeps { OnOk result (Kept self.old self.new) }
     {
         if is_sign(code, read.token) {
             return Ok(true);
         }
-        match self.rest.back(read.token, read.frozen) {
+        match self.input.back(read.token, read.frozen) {
             Ok(()) => Ok(false),
             Err(_) => Err(self.no_memory()),
         }
     }
 
     // The first token behind spaces, which are taken.
-    fn behind_spaces(&mut self) -> Result<Option<Read>, Stop>
+    fn behind_spaces<F: Files>(&mut self, files: &mut F) -> Result<Option<Read>, Stop>
         requires running { self.old.stop ≡ None }
         requires sound { Sound self.old }
-        ensures takes { Silent (spec_behind_spaces (state_of self.old)) (ok_at (option_map (read_at self.new.names)) result) (state_of self.new) }
-        ensures kept { self.new.stop ≡ stop_after result }
-        ensures progress { Progress self.old self.new }
-        ensures limit { IsAtLimit result self.new }
-        ensures keeps { OnOk result (Kept self.old self.new) }
+        requires owns { Owns (F.shelf files.old) self.old }
+        ensures gets { Gets spec_behind_spaces (ok_at (option_map (read_at self.new.names)) result) self.old self.new (files_at (F.shelf files.old) (F.faults files.old)) (files_at (F.shelf files.new) (F.faults files.new)) }
+        ensures lower { IfOk result (λ o. Shrinks (length (option_to_list o)) (F.shelf files.old) self.old (F.shelf files.new) self.new) }
         ensures within { IfOk result (OptionWithin (ReadWithin (length self.new.names))) }
     {
         'spaces: loop {
-            let Some(read) = self.take_front()? else {
+            let Some(read) = self.take_front(files)? else {
                 return Ok(None);
             };
             match self.is_space(read.token) {
@@ -399,27 +412,26 @@ impl Engine {
     }
 
     // Whether a token is a space, or means one.
-    fn is_space(&self, token: Token) -> Result<bool, AllocError>
+    pub(super) fn is_space(&self, token: Token) -> Result<bool, AllocError>
         requires sound { Sound self.now }
         requires token { TokenWithin (length self.now.names) token }
-        ensures { IfOk result (λ space. space ≡ spec_is_space (state_of self.now).world (token_at self.now.names token)) }
+        ensures { IfOk result (λ space. space ≡ spec_is_space (world_in self.now) (token_at self.now.names token)) }
     {
         let meaning = self.means(token)?;
         Ok(means_space(&meaning))
     }
 
     // The next token inside a text, unexpanded: there must be one, and no text may have ended before it.
-    fn inner_token(&mut self) -> Result<Token, Stop>
+    pub(super) fn inner_token<F: Files>(&mut self, files: &mut F) -> Result<Token, Stop>
         requires running { self.old.stop ≡ None }
         requires sound { Sound self.old }
-        ensures takes { Silent (spec_inner_token (state_of self.old)) (ok_at (token_at self.new.names) result) (state_of self.new) }
-        ensures kept { self.new.stop ≡ stop_after result }
-        ensures progress { Progress self.old self.new }
-        ensures keeps { OnOk result (Kept self.old self.new) }
-        ensures limit { IsAtLimit result self.new }
+        requires owns { Owns (F.shelf files.old) self.old }
+        ensures gets { Gets spec_inner_token (ok_at (token_at self.new.names) result) self.old self.new (files_at (F.shelf files.old) (F.faults files.old)) (files_at (F.shelf files.new) (F.faults files.new)) }
+        ensures lower { OnOk result (Shrinks 1 (F.shelf files.old) self.old (F.shelf files.new) self.new) }
+        ensures begun { self.new.begun ≡ self.old.begun }
         ensures within { IfOk result (TokenWithin (length self.new.names)) }
     {
-        match self.take_front()? {
+        match self.take_front(files)? {
             Some(read) if !read.crossed => Ok(read.token),
             Some(_) => Err(self.bare_fault(fault_code::FILE_ENDED)),
             None => Err(self.bare_fault(fault_code::FILE_ENDED)),
@@ -427,17 +439,17 @@ impl Engine {
     }
 
     // Feeds the next tokens, unexpanded, until they decide.
-    fn feed<V, D: Feeder<V>>(&mut self, feeder: &mut D) -> Result<V, Stop>
+    fn feed<F: Files, V, D: Feeder<V>>(&mut self, files: &mut F, feeder: &mut D) -> Result<V, Stop>
         requires running { self.old.stop ≡ None }
         requires sound { Sound self.old }
+        requires owns { Owns (F.shelf files.old) self.old }
         requires short { (texts : Table) → D.judge feeder.old texts [] ≡ TooShort }
-        ensures feeds { Feeds (D.judge feeder.old) (state_of self.old) result self.new }
-        ensures kept { self.new.stop ≡ stop_after result }
-        ensures progress { Progress self.old self.new }
-        ensures keeps { OnOk result (Kept self.old self.new) }
+        ensures feeds { FeedsTold (D.judge feeder.old) (state_of (F.shelf files.old) self.old) (F.shelf files.old) result self.new.names (state_of (F.shelf files.new) self.new) }
+        ensures runs { Runs result self.old self.new (files_at (F.shelf files.old) (F.faults files.old)) (files_at (F.shelf files.new) (F.faults files.new)) }
+        ensures lower { IfOk result (λ v. FedBy (D.judge feeder.old) v (F.shelf files.old) self.old (F.shelf files.new) self.new) }
     {
         'tokens: loop {
-            let token = self.inner_token()?;
+            let token = self.inner_token(files)?;
             match feeder.feed(token, &self.names) {
                 Ok(Verdict::TooShort) => {}
                 Ok(Verdict::Yields(value)) => return Ok(value),
@@ -448,18 +460,16 @@ impl Engine {
     }
 
     // The tokens up to the brace that ends the group which has begun.
-    fn absorb_group(&mut self) -> Result<Tokens, Stop>
+    fn absorb_group<F: Files>(&mut self, files: &mut F) -> Result<Tokens, Stop>
         requires running { self.old.stop ≡ None }
         requires sound { Sound self.old }
-        ensures absorbs { Silent (spec_absorb (state_of self.old)) (ok_at (tokens_at self.new.names) result) (state_of self.new) }
-        ensures kept { self.new.stop ≡ stop_after result }
-        ensures lower { IfOk result (λ list. Lower (length list + 1) (state_of self.old) (state_of self.new)) }
-        ensures progress { Progress self.old self.new }
-        ensures keeps { OnOk result (Kept self.old self.new) }
+        requires owns { Owns (F.shelf files.old) self.old }
+        ensures gets { Gets (by_least absorbed) (ok_at (tokens_at self.new.names) result) self.old self.new (files_at (F.shelf files.old) (F.faults files.old)) (files_at (F.shelf files.new) (F.faults files.new)) }
+        ensures lower { IfOk result (λ list. Shrinks (length list + 1) (F.shelf files.old) self.old (F.shelf files.new) self.new) }
         ensures within { IfOk result (TokensWithin (length self.new.names)) }
     {
         let mut group = Group::new(self.alloc);
-        self.feed(&mut group)
+        self.feed(files, &mut group)
     }
 }
 
@@ -474,7 +484,7 @@ pub fn means_space(meaning: &Meaning) -> bool
 }
 
 // Whether a token is this character, of category 12.
-fn is_sign(code: u32, token: Token) -> bool
+pub(super) fn is_sign(code: u32, token: Token) -> bool
     ensures { (texts : Table) → result ≡ spec_is_sign code (token_at texts token) }
 {
     match token {

@@ -13,12 +13,12 @@ ghost use Rattle.texml_expand.specs.Variables.{a_character, a_register, internal
 ghost use Rattle.texml_expand.specs.Quantities.{shown as spec_shown, decided_on as spec_decided_on, scan_fault as spec_scan_fault};
 ghost use Rattle.texml_expand.specs.Expand.{read_int as spec_read_int, read_dimen as spec_read_dimen, read_glue as spec_read_glue, read_keyword as spec_read_keyword, read_index as spec_read_index, read_key as spec_read_key};
 ghost use Rattle.texml_expand.specs.VariableCodes.{internal_at, InternalWithin, HasNumber, Names};
-ghost use Rattle.texml_expand.specs.Machine.{scanned_as};
+ghost use Rattle.texml_expand.specs.Machine.{scanned_as, HasValue};
 ghost use Rattle.texml_expand.specs.Scanning.{all_seen_at, SeenWithin};
 ghost use Rattle.std.specs.List.{All};
-ghost use Rattle.texml_expand.specs.Held.{state_of, Sound, Kept, Progress, IsAtLimit, ok_at};
-ghost use Rattle.texml_expand.specs.Contract.{Silent, AnswersKept, Lower, Stops, outside, stop_after};
-ghost use Rattle.texml_expand.specs.Hearing.{hears, hears_part, Follows};
+ghost use Rattle.texml_expand.specs.Held.{state_of, Sound, Kept, Progress, IsAtLimit, ok_at, Owns, Holding, SameFiles, Shrinks, Puts};
+ghost use Rattle.texml_expand.specs.Contract.{Local, AnswersKept, Stops, outside, stop_after};
+ghost use Rattle.texml_expand.specs.Hearing.{hears, hears_part, FollowsTold};
 
 use super::Engine;
 use super::expanding::Seen;
@@ -30,15 +30,14 @@ use crate::variables::{Index, LAST_REGISTER, Variable, index_of, key_of};
 use std::alloc::{AllocError, Global};
 use texml_base::Files;
 use texml_fixed::{Glue, Scaled};
-use texml_scan::{DimenScan, GlueScan, KeywordScan, ScanFault};
+use texml_scan::{GlueScan, KeywordScan, ScanFault};
 use texml_scope::{Key, Value as KeyValue};
 use texml_token::{Tokens, fault_code};
 use texml_watch::Teller;
 
 impl Engine {
     /// Reads a number, whose tokens are expanded as they are looked at: signs and spaces, and then digits, a backquote with a
-    /// character, or an internal quantity. The tokens looked at that aren't part of it go back. It reads no file yet (The
-    /// TeXbook, chapter 24).
+    /// character, or an internal quantity. The tokens looked at that aren't part of it go back (The TeXbook, chapter 24).
     ///
     /// # Errors
     ///
@@ -50,19 +49,20 @@ impl Engine {
         files: &mut F,
         tell: &mut T,
     ) -> Result<i32, Stop>
-        requires { self.old.stop ≡ None → Sound self.old }
-        ensures follows { self.old.stop ≡ None → Follows (hears T.wanting T.heard) (hears_part T.wanting T.part) (λ n. spec_read_int n (state_of self.old)) result (state_of self.new) tell.old tell.new }
-        ensures stops { self.old.stop ≡ None → Stops result (outside (F.faults files.old) (T.faults tell.old)) (outside (F.faults files.new) (T.faults tell.new)) self.new.stop }
-        ensures lower { self.old.stop ≡ None → OnOk result (Lower 0 (state_of self.old) (state_of self.new)) }
+        requires sound { self.old.stop ≡ None → Sound self.old }
+        requires owns { Owns (F.shelf files.old) self.old }
+        ensures follows { self.old.stop ≡ None → FollowsTold (hears T.wanting T.heard) (hears_part T.wanting T.part) (F.shelf files.old) (λ n. spec_read_int n (state_of (F.shelf files.old) self.old)) result (state_of (F.shelf files.new) self.new) tell.old tell.new }
+        ensures stops { self.old.stop ≡ None → Stops result (outside (F.shelf files.old) (F.faults files.old) (T.faults tell.old) (T.loan tell.old)) (outside (F.shelf files.new) (F.faults files.new) (T.faults tell.new) (T.loan tell.new)) self.new.stop }
+        ensures lower { self.old.stop ≡ None → OnOk result (Shrinks 0 (F.shelf files.old) self.old (F.shelf files.new) self.new) }
         ensures progress { Progress self.old self.new }
         ensures limit { self.old.stop ≡ None → IsAtLimit result self.new }
         ensures keeps { self.old.stop ≡ None → OnOk result (Kept self.old self.new) }
         ensures within { self.old.stop ≡ None → IfOk result IsWithin }
-        ensures stays { IfSome self.old.stop (λ stop. AnswersKept stop result × (self.new ≡ self.old) × (tell.new ≡ tell.old)) }
-        ensures files { files.new ≡ files.old }
+        ensures stays { IfSome self.old.stop (λ stop. AnswersKept stop result × (self.new ≡ self.old) × (files.new ≡ files.old) × (tell.new ≡ tell.old)) }
+        ensures holds { Holding (F.shelf files.old) (F.shelf files.new) self.old self.new }
     {
         self.running()?;
-        self.int(tell, 0)
+        self.int(files, tell, 0)
     }
 
     /// Reads a dimension, as `read_int` reads a number: signs, and then an internal dimension, or digits with a unit (The
@@ -76,22 +76,20 @@ impl Engine {
         files: &mut F,
         tell: &mut T,
     ) -> Result<Scaled, Stop>
-        requires { self.old.stop ≡ None → Sound self.old }
-        ensures follows { self.old.stop ≡ None → Follows (hears T.wanting T.heard) (hears_part T.wanting T.part) (λ n. spec_read_dimen n (state_of self.old)) result (state_of self.new) tell.old tell.new }
-        ensures stops { self.old.stop ≡ None → Stops result (outside (F.faults files.old) (T.faults tell.old)) (outside (F.faults files.new) (T.faults tell.new)) self.new.stop }
-        ensures lower { self.old.stop ≡ None → OnOk result (Lower 0 (state_of self.old) (state_of self.new)) }
+        requires sound { self.old.stop ≡ None → Sound self.old }
+        requires owns { Owns (F.shelf files.old) self.old }
+        ensures follows { self.old.stop ≡ None → FollowsTold (hears T.wanting T.heard) (hears_part T.wanting T.part) (F.shelf files.old) (λ n. spec_read_dimen n (state_of (F.shelf files.old) self.old)) result (state_of (F.shelf files.new) self.new) tell.old tell.new }
+        ensures stops { self.old.stop ≡ None → Stops result (outside (F.shelf files.old) (F.faults files.old) (T.faults tell.old) (T.loan tell.old)) (outside (F.shelf files.new) (F.faults files.new) (T.faults tell.new) (T.loan tell.new)) self.new.stop }
+        ensures lower { self.old.stop ≡ None → OnOk result (Shrinks 0 (F.shelf files.old) self.old (F.shelf files.new) self.new) }
         ensures progress { Progress self.old self.new }
         ensures limit { self.old.stop ≡ None → IsAtLimit result self.new }
         ensures keeps { self.old.stop ≡ None → OnOk result (Kept self.old self.new) }
         ensures within { self.old.stop ≡ None → IfOk result (λ d. IsWithin d.0) }
-        ensures stays { IfSome self.old.stop (λ stop. AnswersKept stop result × (self.new ≡ self.old) × (tell.new ≡ tell.old)) }
-        ensures files { files.new ≡ files.old }
+        ensures stays { IfSome self.old.stop (λ stop. AnswersKept stop result × (self.new ≡ self.old) × (files.new ≡ files.old) × (tell.new ≡ tell.old)) }
+        ensures holds { Holding (F.shelf files.old) (F.shelf files.new) self.old self.new }
     {
         self.running()?;
-        match self.scan(tell, Machine::Dimen(DimenScan::new()), 0)? {
-            Value::Dimen(value) => Ok(value),
-            _ => unreachable!(),
-        }
+        self.dimension(files, tell, 0)
     }
 
     /// Reads glue, as `read_int` reads a number: signs and an internal glue, or a dimension with what it may stretch and shrink
@@ -105,19 +103,20 @@ impl Engine {
         files: &mut F,
         tell: &mut T,
     ) -> Result<Glue, Stop>
-        requires { self.old.stop ≡ None → Sound self.old }
-        ensures follows { self.old.stop ≡ None → Follows (hears T.wanting T.heard) (hears_part T.wanting T.part) (λ n. spec_read_glue n (state_of self.old)) result (state_of self.new) tell.old tell.new }
-        ensures stops { self.old.stop ≡ None → Stops result (outside (F.faults files.old) (T.faults tell.old)) (outside (F.faults files.new) (T.faults tell.new)) self.new.stop }
-        ensures lower { self.old.stop ≡ None → OnOk result (Lower 0 (state_of self.old) (state_of self.new)) }
+        requires sound { self.old.stop ≡ None → Sound self.old }
+        requires owns { Owns (F.shelf files.old) self.old }
+        ensures follows { self.old.stop ≡ None → FollowsTold (hears T.wanting T.heard) (hears_part T.wanting T.part) (F.shelf files.old) (λ n. spec_read_glue n (state_of (F.shelf files.old) self.old)) result (state_of (F.shelf files.new) self.new) tell.old tell.new }
+        ensures stops { self.old.stop ≡ None → Stops result (outside (F.shelf files.old) (F.faults files.old) (T.faults tell.old) (T.loan tell.old)) (outside (F.shelf files.new) (F.faults files.new) (T.faults tell.new) (T.loan tell.new)) self.new.stop }
+        ensures lower { self.old.stop ≡ None → OnOk result (Shrinks 0 (F.shelf files.old) self.old (F.shelf files.new) self.new) }
         ensures progress { Progress self.old self.new }
         ensures limit { self.old.stop ≡ None → IsAtLimit result self.new }
         ensures keeps { self.old.stop ≡ None → OnOk result (Kept self.old self.new) }
         ensures within { self.old.stop ≡ None → IfOk result IsGlueWithin }
-        ensures stays { IfSome self.old.stop (λ stop. AnswersKept stop result × (self.new ≡ self.old) × (tell.new ≡ tell.old)) }
-        ensures files { files.new ≡ files.old }
+        ensures stays { IfSome self.old.stop (λ stop. AnswersKept stop result × (self.new ≡ self.old) × (files.new ≡ files.old) × (tell.new ≡ tell.old)) }
+        ensures holds { Holding (F.shelf files.old) (F.shelf files.new) self.old self.new }
     {
         self.running()?;
-        match self.scan(tell, Machine::Glue(GlueScan::new()), 0)? {
+        match self.scan(files, tell, Machine::Glue(GlueScan::new()), 0)? {
             Value::Glue(value) => Ok(value),
             _ => unreachable!(),
         }
@@ -136,19 +135,20 @@ impl Engine {
         word: &[u8],
     ) -> Result<bool, Stop>
         requires sound { self.old.stop ≡ None → Sound self.old }
+        requires owns { Owns (F.shelf files.old) self.old }
         requires some { 1 ≤ length word.now }
         requires short { length word.now ≤ 255 }
-        ensures follows { self.old.stop ≡ None → Follows (hears T.wanting T.heard) (hears_part T.wanting T.part) (λ n. spec_read_keyword word.now n (state_of self.old)) result (state_of self.new) tell.old tell.new }
-        ensures stops { self.old.stop ≡ None → Stops result (outside (F.faults files.old) (T.faults tell.old)) (outside (F.faults files.new) (T.faults tell.new)) self.new.stop }
-        ensures lower { self.old.stop ≡ None → OnOk result (Lower 0 (state_of self.old) (state_of self.new)) }
+        ensures follows { self.old.stop ≡ None → FollowsTold (hears T.wanting T.heard) (hears_part T.wanting T.part) (F.shelf files.old) (λ n. spec_read_keyword word.now n (state_of (F.shelf files.old) self.old)) result (state_of (F.shelf files.new) self.new) tell.old tell.new }
+        ensures stops { self.old.stop ≡ None → Stops result (outside (F.shelf files.old) (F.faults files.old) (T.faults tell.old) (T.loan tell.old)) (outside (F.shelf files.new) (F.faults files.new) (T.faults tell.new) (T.loan tell.new)) self.new.stop }
+        ensures lower { self.old.stop ≡ None → OnOk result (Shrinks 0 (F.shelf files.old) self.old (F.shelf files.new) self.new) }
         ensures progress { Progress self.old self.new }
         ensures limit { self.old.stop ≡ None → IsAtLimit result self.new }
         ensures keeps { self.old.stop ≡ None → OnOk result (Kept self.old self.new) }
-        ensures stays { IfSome self.old.stop (λ stop. AnswersKept stop result × (self.new ≡ self.old) × (tell.new ≡ tell.old)) }
-        ensures files { files.new ≡ files.old }
+        ensures stays { IfSome self.old.stop (λ stop. AnswersKept stop result × (self.new ≡ self.old) × (files.new ≡ files.old) × (tell.new ≡ tell.old)) }
+        ensures holds { Holding (F.shelf files.old) (F.shelf files.new) self.old self.new }
     {
         self.running()?;
-        match self.scan(tell, Machine::Keyword(KeywordScan::new(word)), 0)? {
+        match self.scan(files, tell, Machine::Keyword(KeywordScan::new(word)), 0)? {
             Value::Found(found) => Ok(found),
             _ => unreachable!(),
         }
@@ -166,19 +166,20 @@ impl Engine {
         tell: &mut T,
         index: Index,
     ) -> Result<u32, Stop>
-        requires { self.old.stop ≡ None → Sound self.old }
-        ensures follows { self.old.stop ≡ None → Follows (hears T.wanting T.heard) (hears_part T.wanting T.part) (λ n. spec_read_index index n (state_of self.old)) result (state_of self.new) tell.old tell.new }
-        ensures stops { self.old.stop ≡ None → Stops result (outside (F.faults files.old) (T.faults tell.old)) (outside (F.faults files.new) (T.faults tell.new)) self.new.stop }
-        ensures lower { self.old.stop ≡ None → OnOk result (Lower 0 (state_of self.old) (state_of self.new)) }
+        requires sound { self.old.stop ≡ None → Sound self.old }
+        requires owns { Owns (F.shelf files.old) self.old }
+        ensures follows { self.old.stop ≡ None → FollowsTold (hears T.wanting T.heard) (hears_part T.wanting T.part) (F.shelf files.old) (λ n. spec_read_index index n (state_of (F.shelf files.old) self.old)) result (state_of (F.shelf files.new) self.new) tell.old tell.new }
+        ensures stops { self.old.stop ≡ None → Stops result (outside (F.shelf files.old) (F.faults files.old) (T.faults tell.old) (T.loan tell.old)) (outside (F.shelf files.new) (F.faults files.new) (T.faults tell.new) (T.loan tell.new)) self.new.stop }
+        ensures lower { self.old.stop ≡ None → OnOk result (Shrinks 0 (F.shelf files.old) self.old (F.shelf files.new) self.new) }
         ensures progress { Progress self.old self.new }
         ensures limit { self.old.stop ≡ None → IsAtLimit result self.new }
         ensures keeps { self.old.stop ≡ None → OnOk result (Kept self.old self.new) }
         ensures fits { self.old.stop ≡ None → IfOk result (HasNumber index) }
-        ensures stays { IfSome self.old.stop (λ stop. AnswersKept stop result × (self.new ≡ self.old) × (tell.new ≡ tell.old)) }
-        ensures files { files.new ≡ files.old }
+        ensures stays { IfSome self.old.stop (λ stop. AnswersKept stop result × (self.new ≡ self.old) × (files.new ≡ files.old) × (tell.new ≡ tell.old)) }
+        ensures holds { Holding (F.shelf files.old) (F.shelf files.new) self.old self.new }
     {
         self.running()?;
-        self.index(tell, index, 0)
+        self.index(files, tell, index, 0)
     }
 
     /// Reads which of a builtin's variables is meant: behind it comes the number of a character or of a register, or none (The
@@ -193,20 +194,21 @@ impl Engine {
         tell: &mut T,
         variable: Variable,
     ) -> Result<Key, Stop>
-        requires { self.old.stop ≡ None → Sound self.old }
-        ensures follows { self.old.stop ≡ None → Follows (hears T.wanting T.heard) (hears_part T.wanting T.part) (λ n. spec_read_key variable n (state_of self.old)) (ok_at (key_at self.new.names) result) (state_of self.new) tell.old tell.new }
-        ensures stops { self.old.stop ≡ None → Stops result (outside (F.faults files.old) (T.faults tell.old)) (outside (F.faults files.new) (T.faults tell.new)) self.new.stop }
-        ensures lower { self.old.stop ≡ None → OnOk result (Lower 0 (state_of self.old) (state_of self.new)) }
+        requires sound { self.old.stop ≡ None → Sound self.old }
+        requires owns { Owns (F.shelf files.old) self.old }
+        ensures follows { self.old.stop ≡ None → FollowsTold (hears T.wanting T.heard) (hears_part T.wanting T.part) (F.shelf files.old) (λ n. spec_read_key variable n (state_of (F.shelf files.old) self.old)) (ok_at (key_at self.new.names) result) (state_of (F.shelf files.new) self.new) tell.old tell.new }
+        ensures stops { self.old.stop ≡ None → Stops result (outside (F.shelf files.old) (F.faults files.old) (T.faults tell.old) (T.loan tell.old)) (outside (F.shelf files.new) (F.faults files.new) (T.faults tell.new) (T.loan tell.new)) self.new.stop }
+        ensures lower { self.old.stop ≡ None → OnOk result (Shrinks 0 (F.shelf files.old) self.old (F.shelf files.new) self.new) }
         ensures progress { Progress self.old self.new }
         ensures limit { self.old.stop ≡ None → IsAtLimit result self.new }
         ensures keeps { self.old.stop ≡ None → OnOk result (Kept self.old self.new) }
         ensures names { self.old.stop ≡ None → IfOk result (Names variable) }
         ensures within { self.old.stop ≡ None → IfOk result (KeyWithin (length self.new.names)) }
-        ensures stays { IfSome self.old.stop (λ stop. AnswersKept stop result × (self.new ≡ self.old) × (tell.new ≡ tell.old)) }
-        ensures files { files.new ≡ files.old }
+        ensures stays { IfSome self.old.stop (λ stop. AnswersKept stop result × (self.new ≡ self.old) × (files.new ≡ files.old) × (tell.new ≡ tell.old)) }
+        ensures holds { Holding (F.shelf files.old) (F.shelf files.new) self.old self.new }
     {
         self.running()?;
-        let number = self.index(tell, index_of(variable), 0)?;
+        let number = self.index(files, tell, index_of(variable), 0)?;
         Ok(key_of(variable, number))
     }
 
@@ -219,10 +221,11 @@ impl Engine {
         requires running { self.old.stop ≡ None }
         requires sound { Sound self.old }
         requires key { KeyWithin (length self.old.names) key }
-        ensures values { Silent (spec_value_of (key_at self.old.names key) (state_of self.old)) (ok_at (internal_at self.old.names) result) (state_of self.new) }
+        ensures values { Local (spec_value_of (key_at self.old.names key)) (ok_at (internal_at self.old.names) result) self.old self.new }
         ensures kept { self.new.stop ≡ stop_after result }
         ensures progress { Progress self.old self.new }
         ensures limit { IsAtLimit result self.new }
+        ensures files { SameFiles self.old self.new }
         ensures keeps { OnOk result (Kept self.old self.new) }
         ensures same { OnOk result (self.new ≡ self.old) }
         ensures within { IfOk result (InternalWithin (length self.old.names)) }
@@ -239,10 +242,13 @@ impl Engine {
         requires running { self.old.stop ≡ None }
         requires sound { Sound self.old }
         requires within { All (SeenWithin (length self.old.names)) seen.now }
-        ensures decides { Silent (spec_decided_on (all_seen_at self.old.names seen.now) (scanned_as scanned) (state_of self.old)) (result) (state_of self.new) }
+        ensures decides { Local (spec_decided_on (all_seen_at self.old.names seen.now) (scanned_as scanned)) (result) self.old self.new }
+        ensures puts { OnOk result (Puts (length seen.now) self.old self.new) }
+        ensures value { IfOk result (λ v. HasValue v scanned) }
         ensures kept { self.new.stop ≡ stop_after result }
         ensures progress { Progress self.old self.new }
         ensures limit { IsAtLimit result self.new }
+        ensures files { SameFiles self.old self.new }
         ensures keeps { OnOk result (Kept self.old self.new) }
     {
         match scanned {
@@ -261,10 +267,12 @@ impl Engine {
         requires running { self.old.stop ≡ None }
         requires sound { Sound self.old }
         requires within { All (SeenWithin (length self.old.names)) seen.now }
-        ensures puts { Silent (change (put (map (λ x. x.token) (all_seen_at self.old.names seen.now))) (state_of self.old)) (result) (state_of self.new) }
+        ensures does { Local (change (put (map (λ x. x.token) (all_seen_at self.old.names seen.now)))) (result) self.old self.new }
+        ensures puts { OnOk result (Puts (length seen.now) self.old self.new) }
         ensures kept { self.new.stop ≡ stop_after result }
         ensures progress { Progress self.old self.new }
         ensures limit { IsAtLimit result self.new }
+        ensures files { SameFiles self.old self.new }
         ensures keeps { OnOk result (Kept self.old self.new) }
     {
         match tokens_seen(self.alloc, seen) {
@@ -277,10 +285,11 @@ impl Engine {
     pub(super) fn character(&mut self, number: i32) -> Result<u32, Stop>
         requires running { self.old.stop ≡ None }
         requires sound { Sound self.old }
-        ensures is { Silent (a_character number (state_of self.old)) (result) (state_of self.new) }
+        ensures is { Local (a_character number) (result) self.old self.new }
         ensures kept { self.new.stop ≡ stop_after result }
         ensures progress { Progress self.old self.new }
         ensures limit { IsAtLimit result self.new }
+        ensures files { SameFiles self.old self.new }
         ensures keeps { OnOk result (Kept self.old self.new) }
         ensures same { OnOk result (self.new ≡ self.old) }
         ensures fits { IfOk result (HasNumber Index.Character) }
@@ -295,10 +304,11 @@ impl Engine {
     pub(super) fn register(&mut self, number: i32) -> Result<u32, Stop>
         requires running { self.old.stop ≡ None }
         requires sound { Sound self.old }
-        ensures is { Silent (a_register number (state_of self.old)) (result) (state_of self.new) }
+        ensures is { Local (a_register number) (result) self.old self.new }
         ensures kept { self.new.stop ≡ stop_after result }
         ensures progress { Progress self.old self.new }
         ensures limit { IsAtLimit result self.new }
+        ensures files { SameFiles self.old self.new }
         ensures keeps { OnOk result (Kept self.old self.new) }
         ensures same { OnOk result (self.new ≡ self.old) }
         ensures fits { IfOk result (HasNumber Index.Register) }
@@ -313,10 +323,11 @@ impl Engine {
     pub(super) fn number(&mut self, value: i32) -> Result<Tokens, Stop>
         requires running { self.old.stop ≡ None }
         requires sound { Sound self.old }
-        ensures writes { Silent (give (printed_tokens (signed_decimal value)) (state_of self.old)) (ok_at (tokens_at self.old.names) result) (state_of self.new) }
+        ensures writes { Local (give (printed_tokens (signed_decimal value))) (ok_at (tokens_at self.old.names) result) self.old self.new }
         ensures kept { self.new.stop ≡ stop_after result }
         ensures progress { Progress self.old self.new }
         ensures limit { IsAtLimit result self.new }
+        ensures files { SameFiles self.old self.new }
         ensures keeps { OnOk result (Kept self.old self.new) }
         ensures same { OnOk result (self.new ≡ self.old) }
         ensures within { IfOk result (TokensWithin (length self.old.names)) }
@@ -331,10 +342,11 @@ impl Engine {
     pub(super) fn roman_numeral(&mut self, value: i32) -> Result<Tokens, Stop>
         requires running { self.old.stop ≡ None }
         requires sound { Sound self.old }
-        ensures writes { Silent (give (printed_tokens (roman_text value)) (state_of self.old)) (ok_at (tokens_at self.old.names) result) (state_of self.new) }
+        ensures writes { Local (give (printed_tokens (roman_text value))) (ok_at (tokens_at self.old.names) result) self.old self.new }
         ensures kept { self.new.stop ≡ stop_after result }
         ensures progress { Progress self.old self.new }
         ensures limit { IsAtLimit result self.new }
+        ensures files { SameFiles self.old self.new }
         ensures keeps { OnOk result (Kept self.old self.new) }
         ensures same { OnOk result (self.new ≡ self.old) }
         ensures within { IfOk result (TokensWithin (length self.old.names)) }
@@ -350,10 +362,11 @@ impl Engine {
         requires running { self.old.stop ≡ None }
         requires sound { Sound self.old }
         requires internal { InternalWithin (length self.old.names) internal }
-        ensures writes { Silent (give (spec_shown (internal_at self.old.names internal)) (state_of self.old)) (ok_at (tokens_at self.old.names) result) (state_of self.new) }
+        ensures writes { Local (give (spec_shown (internal_at self.old.names internal))) (ok_at (tokens_at self.old.names) result) self.old self.new }
         ensures kept { self.new.stop ≡ stop_after result }
         ensures progress { Progress self.old self.new }
         ensures limit { IsAtLimit result self.new }
+        ensures files { SameFiles self.old self.new }
         ensures keeps { OnOk result (Kept self.old self.new) }
         ensures same { OnOk result (self.new ≡ self.old) }
         ensures within { IfOk result (TokensWithin (length self.old.names)) }
@@ -405,7 +418,7 @@ fn internal_in(alloc: Global, key: Key, value: KeyValue) -> Internal
 }
 
 // A quantity as `\the` writes it, or the tokens themselves.
-fn shown(alloc: Global, internal: Internal) -> Result<Tokens, AllocError>
+pub(super) fn shown(alloc: Global, internal: Internal) -> Result<Tokens, AllocError>
     ensures is { IfOk result (λ list. (texts : Table) → tokens_at texts list ≡ spec_shown (internal_at texts internal)) }
     ensures within { IfOk result (λ list. (count : ℕ) → InternalWithin count internal → TokensWithin count list) }
 {

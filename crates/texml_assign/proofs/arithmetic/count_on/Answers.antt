@@ -1,30 +1,22 @@
-use Rattle.std.proofs.Common.{Bool, true, false, if◌then◌else◌, Ok, Err, None, Some, Option, refl, sym, ap, subst, ◌∙◌, rules, codes}
-use Rattle.std.specs.Option.{option_map}
-use Rattle.texml_scope.specs.declared.values.ValueOf.TheVariants as values
-use Rattle.texml_scope.specs.Numbers.{key_at, meaning_at, value_at}
-use Rattle.texml_token.specs.Numbers.{token_at, tokens_at}
-use Rattle.texml_expand.specs.State.{give, fail, change, Done, nothing}
-use Rattle.texml_expand.specs.Held.{Held, state_of, ok_at, Kept}
-use Rattle.texml_expand.specs.Contract.{Silent}
-use Rattle.texml_expand.specs.Fronts.{looked_at}
-use Rattle.texml_expand.specs.Hearing.{hears, hears_part}
-use Rattle.texml_expand.specs.Absorb.{absorb}
-use Rattle.texml_expand.specs.Expand.{fetch, read_int, read_dimen, read_glue, read_keyword, read_index}
-use Rattle.texml_assign.proofs.Readings.{lawful_plain, plain_give}
-use Rattle.texml_assign.proofs.Parts.{plain_absorb, plain_set, plain_assign, plain_next_key}
-use Rattle.texml_assign.proofs.Doing.{does_call, does_then, does_stop, does_now, does_silent, does_fault, does_out, kept_of, keeps_of, advances_progress, advances_stopped}
-use Rattle.texml_assign.specs.Sets.{set, assign}
+use Rattle.std.proofs.Common.{rules}
+use Rattle.texml_scope.specs.Numbers.{key_at}
+use Rattle.texml_expand.specs.State.{change}
+use Rattle.texml_assign.proofs.Parts.{plain_set}
+use Rattle.texml_assign.proofs.Doing.{does_then, does_stop, does_local}
+use Rattle.texml_assign.specs.Sets.{set}
 use Rattle.texml_assign.specs.Arithmetic.{computed, value_from}
-use Rattle.texml_assign.proofs.Quantities.{lawful_computed, lawful_set, same_key, counted_variable, key_given, count_value}
+use Rattle.texml_assign.proofs.Quantities.{lawful_computed, lawful_set, same_key, counted_variable, count_value}
 use Rattle.texml_assign.proofs.arithmetic.count_on.Goals as goal
 
-pub returns-in_err-new-clause-does : goal.returns-in_err-new-clause-does
-returns-in_err-new-clause-does g c =
+pub returns-in_err-new : goal.returns-in_err-new
+returns-in_err-new g c =
     let old = c.args.engine.now in
     let h = does_stop _ _ (computed c.args.what c.args.old) (λ k n. change (set c.args.global (key_at old.names c.args.key) (value_from k))) (lawful_computed c.args.what c.args.old) (λ k. lawful_set c.args.global (key_at old.names c.args.key) (value_from k)) _ _ _ _ _ _ _ c.requires.sound c.in_err-new.ensures.does in search (rules, h)
 
-pub returns-clause-does : goal.returns-clause-does
-returns-clause-does g c =
-    let old = c.args.engine.now in let mid = c.computed.new.engine in let new = c.set.new.engine in
-    does_then _ _ (computed c.args.what c.args.old) (λ k n. change (set c.args.global (key_at old.names c.args.key) (value_from k))) (lawful_computed c.args.what c.args.old) (λ k. lawful_set c.args.global (key_at old.names c.args.key) (value_from k)) c.in_ok-new.new c.set.result _ mid new _ _ _ _ _ _ c.in_ok-new.ensures.does
-    (does_silent _ _ (change (set c.args.global (key_at old.names c.args.key) (value_from c.in_ok-new.new))) (plain_set c.args.global (key_at old.names c.args.key) (value_from c.in_ok-new.new)) c.set.result mid new _ _ _ _ _ _ refl refl refl (rw ((same_key c.args.key (counted_variable c.args.key c.requires.key) old.names mid.names), ← count_value mid.names c.in_ok-new.new, ← c.value_from.ensures) c.set.ensures.sets) c.set.ensures.kept c.set.ensures.keeps c.set.ensures.advances)
+pub returns : goal.returns
+returns g c = record {
+  does =
+      let old = c.args.engine.now in let mid = c.computed.new.engine in let new = c.set.new.engine in
+      does_then _ _ (computed c.args.what c.args.old) (λ k n. change (set c.args.global (key_at old.names c.args.key) (value_from k))) (lawful_computed c.args.what c.args.old) (λ k. lawful_set c.args.global (key_at old.names c.args.key) (value_from k)) c.in_ok-new.new c.set.result _ mid new _ _ _ _ _ _ c.in_ok-new.ensures.does
+      (does_local _ _ (change (set c.args.global (key_at old.names c.args.key) (value_from c.in_ok-new.new))) (plain_set c.args.global (key_at old.names c.args.key) (value_from c.in_ok-new.new)) c.set.result mid new _ _ c.in_ok-new.ensures.does.holds.owns (rw ((same_key c.args.key (counted_variable c.args.key c.requires.key) old.names mid.names), ← count_value mid.names c.in_ok-new.new, ← c.value_from.ensures) c.set.ensures.sets) c.set.ensures.kept c.set.ensures.keeps c.set.ensures.advances c.set.ensures.files c.set.ensures.puts);
+}

@@ -1,35 +1,23 @@
-use Rattle.std.proofs.Common.{Bool, true, false, if◌then◌else◌, Ok, Err, None, Some, Option, refl, sym, ap, subst, ◌∙◌, rules, codes}
-use Rattle.std.specs.Option.{option_map}
-use Rattle.texml_scope.specs.declared.values.ValueOf.TheVariants as values
-use Rattle.texml_scope.specs.Numbers.{key_at, meaning_at, value_at}
-use Rattle.texml_token.specs.Numbers.{token_at, tokens_at}
-use Rattle.texml_expand.specs.State.{give, fail, change, Done, nothing}
-use Rattle.texml_expand.specs.Held.{Held, state_of, ok_at, Kept}
-use Rattle.texml_expand.specs.Contract.{Silent}
-use Rattle.texml_expand.specs.Fronts.{looked_at}
+use Rattle.std.proofs.Common.{Ok, Err, ap, subst, ◌∙◌, rules}
+use Rattle.texml_expand.specs.Contract.{Local}
 use Rattle.texml_expand.specs.Hearing.{hears, hears_part}
-use Rattle.texml_expand.specs.Absorb.{absorb}
-use Rattle.texml_expand.specs.Expand.{fetch, read_int, read_dimen, read_glue, read_keyword, read_index}
-use Rattle.texml_assign.proofs.Readings.{lawful_plain, plain_give}
-use Rattle.texml_assign.proofs.Parts.{plain_absorb, plain_set, plain_assign, plain_next_key}
-use Rattle.texml_assign.proofs.Doing.{does_call, does_then, does_stop, does_now, does_silent, does_fault, does_out, kept_of, keeps_of, advances_progress, advances_stopped}
-use Rattle.texml_assign.specs.Sets.{set, assign}
-use Rattle.texml_assign.specs.Arithmetic.{fits, product, quotient, number_sum, dimension_sum, sum_of_glue}
+use Rattle.texml_expand.specs.Expand.{read_int}
+use Rattle.texml_assign.proofs.Doing.{does_call, does_then, does_stop, does_judge, no_more}
+use Rattle.texml_assign.specs.Arithmetic.{fits, quotient}
 use Rattle.texml_assign.proofs.Quantities.{lawful_int, lawful_fits, plain_fits}
-use Rattle.std.proofs.Common.{FitsSigned, w32, to_z, of_z}
+use Rattle.std.proofs.Common.{FitsSigned, w32}
 use Rattle.std.proofs.lemmas.Int.{to_z-of_z}
 use Rattle.texml_assign.proofs.arithmetic.shared.Goals as goal
 
 pub returns-in_err-number-clause-does : goal.returns-in_err-number-clause-does
 returns-in_err-number-clause-does g c =
     let run = c.requires.running in let f = c.in_err-number.ensures in let old = c.args.engine.now in let mid = c.read_int.new.self in let a = c.args.old in
-    let s = does_call (hears g.T.Teller.wanting g.T.Teller.heard) (hears_part g.T.Teller.wanting g.T.Teller.part) read_int (λ z. z) (Err c.in_err-number.field-0.0) old mid _ _ _ _ (f.follows run) (f.stops run) (f.limit run) tt f.progress in
+    let s = does_call (hears g.T.Teller.wanting g.T.Teller.heard) (hears_part g.T.Teller.wanting g.T.Teller.part) read_int (λ z. z) (Err c.in_err-number.field-0.0) old mid _ _ _ _ (f.follows run) (f.stops run) (f.limit run) tt f.progress f.holds tt in
     let h = does_stop _ _ read_int (λ b n. fits (quotient a b)) lawful_int (λ b. lawful_fits (quotient a b)) _ _ _ _ _ _ _ c.requires.sound s in search (rules, h)
 
 pub returns-clause-does : goal.returns-clause-does
 returns-clause-does g c =
     let run = c.requires.running in let f = c.in_ok-number.ensures in let old = c.args.engine.now in let mid = c.read_int.new.self in let a = c.args.old in let b = c.in_ok-number.number in let new = c.fits.new.engine in let k = c.fits.ensures in
-    let s = does_call (hears g.T.Teller.wanting g.T.Teller.heard) (hears_part g.T.Teller.wanting g.T.Teller.part) read_int (λ z. z) (Ok b) old mid _ _ _ _ (f.follows run) (f.stops run) tt (f.keeps run) f.progress in
+    let s = does_call (hears g.T.Teller.wanting g.T.Teller.heard) (hears_part g.T.Teller.wanting g.T.Teller.part) read_int (λ z. z) (Ok b) old mid _ _ _ _ (f.follows run) (f.stops run) tt (f.keeps run) f.progress f.holds (no_more (f.lower run)) in
     does_then _ _ read_int (λ b n. fits (quotient a b)) lawful_int (λ b. lawful_fits (quotient a b)) b c.fits.result old mid new _ _ _ _ _ _ s
-    (does_silent _ _ (fits (quotient a b)) (plain_fits (quotient a b)) c.fits.result mid new _ _ _ _ _ _ refl refl refl (let w : FitsSigned w32 b = search rules in subst (λ r. Silent (fits r (state_of mid)) c.fits.result (state_of new)) (c.quotient.ensures.is ∙ ap (quotient a) (to_z-of_z w32 b w)) k.fits)
-    k.kept k.keeps (advances_stopped mid new new.stop k.same))
+    (does_judge _ _ (fits (quotient a b)) (plain_fits (quotient a b)) c.fits.result mid new _ _ s.holds.owns (let w : FitsSigned w32 b = search rules in subst (λ r. Local (fits r) c.fits.result mid new) (c.quotient.ensures.is ∙ ap (quotient a) (to_z-of_z w32 b w)) k.fits) k.kept k.keeps k.same)

@@ -1,33 +1,25 @@
-use Rattle.std.proofs.Common.{Bool, true, false, if◌then◌else◌, Ok, Err, None, Some, Option, refl, sym, ap, subst, ◌∙◌, rules, codes}
-use Rattle.std.specs.Option.{option_map}
-use Rattle.texml_scope.specs.declared.values.ValueOf.TheVariants as values
-use Rattle.texml_scope.specs.Numbers.{key_at, meaning_at, value_at}
-use Rattle.texml_token.specs.Numbers.{token_at, tokens_at}
-use Rattle.texml_expand.specs.State.{give, fail, change, Done, nothing}
-use Rattle.texml_expand.specs.Held.{Held, state_of, ok_at, Kept}
-use Rattle.texml_expand.specs.Contract.{Silent}
-use Rattle.texml_expand.specs.Fronts.{looked_at}
-use Rattle.texml_expand.specs.Hearing.{hears, hears_part}
-use Rattle.texml_expand.specs.Absorb.{absorb}
-use Rattle.texml_expand.specs.Expand.{fetch, read_int, read_dimen, read_glue, read_keyword, read_index}
-use Rattle.texml_assign.proofs.Readings.{lawful_plain, plain_give}
-use Rattle.texml_assign.proofs.Parts.{plain_absorb, plain_set, plain_assign, plain_next_key}
-use Rattle.texml_assign.proofs.Doing.{does_call, does_then, does_stop, does_now, does_silent, does_fault, does_out, kept_of, keeps_of, advances_progress, advances_stopped}
-use Rattle.texml_assign.specs.Sets.{set, assign}
+use Rattle.std.proofs.Common.{rules}
+use Rattle.texml_scope.specs.Numbers.{key_at, value_at}
+use Rattle.texml_expand.specs.State.{change}
+use Rattle.texml_assign.proofs.Parts.{plain_set}
+use Rattle.texml_assign.proofs.Doing.{does_then, does_stop, does_local}
+use Rattle.texml_assign.specs.Sets.{set}
 use Rattle.texml_assign.specs.Assignments.{value_for}
 use Rattle.texml_assign.proofs.Quantities.{lawful_value, lawful_set, same_key, key_given}
 use Rattle.texml_assign.proofs.assignments.assign_next.Goals as goal
 
-pub returns-in_err-value-clause-does : goal.returns-in_err-value-clause-does
-returns-in_err-value-clause-does g c =
+pub returns-in_err-value : goal.returns-in_err-value
+returns-in_err-value g c =
     let old = c.args.engine.now in
     let h = does_stop _ _ (value_for (key_at old.names c.args.key)) (λ v n. change (set c.args.global (key_at old.names c.args.key) v)) (lawful_value (key_at old.names c.args.key)) (lawful_set c.args.global (key_at old.names c.args.key)) _ _ _ _ _ _ _ c.requires.sound c.in_err-value.ensures.does in search (rules, h)
 
-pub returns-clause-does : goal.returns-clause-does
-returns-clause-does g c =
-    let old = c.args.engine.now in let mid = c.value_for.new.engine in let new = c.set.new.engine in
-    does_then _ _ (value_for (key_at old.names c.args.key)) (λ v n. change (set c.args.global (key_at old.names c.args.key) v)) (lawful_value (key_at old.names c.args.key)) (lawful_set c.args.global (key_at old.names c.args.key)) (value_at mid.names c.in_ok-value.value) c.set.result _ mid new _ _ _ _ _ _ c.in_ok-value.ensures.does
-    (does_silent _ _ (change (set c.args.global (key_at old.names c.args.key) (value_at mid.names c.in_ok-value.value))) (plain_set c.args.global (key_at old.names c.args.key) (value_at mid.names c.in_ok-value.value)) c.set.result mid new _ _ _ _ _ _ refl refl refl (rw (same_key c.args.key c.requires.key old.names mid.names) c.set.ensures.sets) c.set.ensures.kept c.set.ensures.keeps c.set.ensures.advances)
+pub returns : goal.returns
+returns g c = record {
+  does =
+      let old = c.args.engine.now in let mid = c.value_for.new.engine in let new = c.set.new.engine in
+      does_then _ _ (value_for (key_at old.names c.args.key)) (λ v n. change (set c.args.global (key_at old.names c.args.key) v)) (lawful_value (key_at old.names c.args.key)) (lawful_set c.args.global (key_at old.names c.args.key)) (value_at mid.names c.in_ok-value.value) c.set.result _ mid new _ _ _ _ _ _ c.in_ok-value.ensures.does
+      (does_local _ _ (change (set c.args.global (key_at old.names c.args.key) (value_at mid.names c.in_ok-value.value))) (plain_set c.args.global (key_at old.names c.args.key) (value_at mid.names c.in_ok-value.value)) c.set.result mid new _ _ c.in_ok-value.ensures.does.holds.owns (rw (same_key c.args.key c.requires.key old.names mid.names) c.set.ensures.sets) c.set.ensures.kept c.set.ensures.keeps c.set.ensures.advances c.set.ensures.files c.set.ensures.puts);
+}
 
 pub set-requires-clause-key : goal.set-requires-clause-key
 set-requires-clause-key g c = key_given c.args.key c.requires.key _ _ c.requires.within

@@ -1,4 +1,4 @@
-use Rattle.std.proofs.Common.{ap, ◌∙◌, rules}
+use Rattle.std.proofs.Common.{ap, ◌∙◌}
 use Rattle.texml_assign.specs.Assignments.{register_list}
 use Rattle.texml_assign.proofs.assignments.begins_list.Goals as goal
 

@@ -1,19 +1,9 @@
-use Rattle.std.proofs.Common.{Bool, true, false, if◌then◌else◌, Ok, Err, None, Some, Option, refl, sym, ap, subst, ◌∙◌, rules, codes}
+use Rattle.std.proofs.Common.{rules}
 use Rattle.std.specs.Option.{option_map}
-use Rattle.texml_scope.specs.declared.values.ValueOf.TheVariants as values
-use Rattle.texml_scope.specs.Numbers.{key_at, meaning_at, value_at}
-use Rattle.texml_token.specs.Numbers.{token_at, tokens_at}
-use Rattle.texml_expand.specs.State.{give, fail, change, Done, nothing}
-use Rattle.texml_expand.specs.Held.{Held, state_of, ok_at, Kept}
-use Rattle.texml_expand.specs.Contract.{Silent}
+use Rattle.texml_scope.specs.Numbers.{value_at}
+use Rattle.texml_expand.specs.Held.{ok_at}
 use Rattle.texml_expand.specs.Fronts.{looked_at}
-use Rattle.texml_expand.specs.Hearing.{hears, hears_part}
-use Rattle.texml_expand.specs.Absorb.{absorb}
-use Rattle.texml_expand.specs.Expand.{fetch, read_int, read_dimen, read_glue, read_keyword, read_index}
-use Rattle.texml_assign.proofs.Readings.{lawful_plain, plain_give}
-use Rattle.texml_assign.proofs.Parts.{plain_absorb, plain_set, plain_assign, plain_next_key}
-use Rattle.texml_assign.proofs.Doing.{does_call, does_then, does_stop, does_now, does_silent, does_fault, does_out, kept_of, keeps_of, advances_progress, advances_stopped}
-use Rattle.texml_assign.specs.Sets.{set, assign}
+use Rattle.texml_assign.proofs.Doing.{does_then, does_stop}
 use Rattle.texml_assign.specs.Assignments.{list_by}
 use Rattle.texml_assign.specs.Fillers.{first_behind}
 use Rattle.texml_assign.specs.declared.fillers.Filler.TheVariants.{SpacesAndRelax}

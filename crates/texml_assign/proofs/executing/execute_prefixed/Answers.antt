@@ -5,14 +5,16 @@ use Rattle.texml_assign.proofs.Doing.{does_then, does_stop}
 use Rattle.texml_assign.proofs.Commands.{lawful_prefixed, lawful_perform}
 use Rattle.texml_assign.proofs.executing.execute_prefixed.Goals as goal
 
-pub returns-in_err-found-clause-does : goal.returns-in_err-found-clause-does
-returns-in_err-found-clause-does g c =
+pub returns-in_err-found : goal.returns-in_err-found
+returns-in_err-found g c =
     let p = with_prefix no_prefixes c.args.prefix in
     let d = rw c.with_prefix-first.ensures at c.in_err-found.ensures.does in
     let h = does_stop _ _ (prefixed p) (λ f. perform f.0 f.1) (lawful_prefixed p) (λ f. lawful_perform f.0 f.1) _ _ _ _ _ _ _ c.requires.sound d in search (rules, h)
 
-pub returns-clause-does : goal.returns-clause-does
-returns-clause-does g c =
-    let p = with_prefix no_prefixes c.args.prefix in
-    let d = rw c.with_prefix-first.ensures at c.in_ok-found.ensures.does in
-    does_then _ _ (prefixed p) (λ f. perform f.0 f.1) (lawful_prefixed p) (λ f. lawful_perform f.0 f.1) c.in_ok-found.found _ _ _ _ _ _ _ _ _ _ d c.perform.ensures.does
+pub returns : goal.returns
+returns g c = record {
+  does =
+      let p = with_prefix no_prefixes c.args.prefix in
+      let d = rw c.with_prefix-first.ensures at c.in_ok-found.ensures.does in
+      does_then _ _ (prefixed p) (λ f. perform f.0 f.1) (lawful_prefixed p) (λ f. lawful_perform f.0 f.1) c.in_ok-found.found _ _ _ _ _ _ _ _ _ _ d c.perform.ensures.does;
+}

@@ -1,6 +1,5 @@
-use Rattle.std.proofs.Common.{Bool, ◌||◌, sym, ap, ◌∙◌, rules}
+use Rattle.std.proofs.Common.{Bool, ◌||◌, sym, ap, ◌∙◌}
 use Rattle.texml_scope.specs.Numbers.{meaning_at}
-use Rattle.texml_expand.specs.Arguments.{means_space}
 use Rattle.texml_assign.specs.Fillers.{is_relax}
 use Rattle.texml_assign.proofs.fillers.fills.Goals as goal
 

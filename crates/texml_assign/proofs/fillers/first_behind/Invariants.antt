@@ -1,6 +1,5 @@
 use Rattle.std.proofs.Common.{◌≡◌, ◌-◌}
-use Rattle.texml_expand.specs.State.{room}
-use Rattle.texml_expand.specs.Held.{state_of}
+use Rattle.texml_expand.specs.Held.{held_room}
 use Rattle.texml_expand.specs.Contract.{outside}
 use Rattle.texml_expand.specs.Hearing.{hears, hears_part}
 use Rattle.texml_assign.specs.Fillers.{filler_loop}
@@ -10,9 +9,8 @@ use Rattle.texml_assign.proofs.fillers.first_behind.Given as goal
 
 abbrev pub invariant-rounds : goal.invariant-rounds
 invariant-rounds g l = record {
-  going : Goes (hears g.T.Teller.wanting g.T.Teller.heard) (hears_part g.T.Teller.wanting g.T.Teller.part) (filler_loop l.fn.filler) (filler_laws l.fn.filler) tt l.fn.engine (outside (g.F.Files.faults l.fn.files) (g.T.Teller.faults l.fn.tell)) l.fn.tell
-      tt l.engine (outside (g.F.Files.faults l.files) (g.T.Teller.faults l.tell)) l.tell;
-  files : l.files ≡ l.fn.files;
+  going : Goes (hears g.T.Teller.wanting g.T.Teller.heard) (hears_part g.T.Teller.wanting g.T.Teller.part) (filler_loop l.fn.filler) (filler_laws l.fn.filler) tt l.fn.engine (outside (g.F.Files.shelf l.fn.files) (g.F.Files.faults l.fn.files) (g.T.Teller.faults l.fn.tell) (g.T.Teller.loan l.fn.tell)) l.fn.tell
+      tt l.engine (outside (g.F.Files.shelf l.files) (g.F.Files.faults l.files) (g.T.Teller.faults l.tell) (g.T.Teller.loan l.tell)) l.tell;
 }
 
 abbrev pub decreases-rounds : goal.decreases-rounds
@@ -20,13 +18,12 @@ decreases-rounds g l = l.engine.limit - l.engine.begun
 
 abbrev pub invariant-tokens : goal.invariant-tokens
 invariant-tokens g l = record {
-  going : Goes (hears g.T.Teller.wanting g.T.Teller.heard) (hears_part g.T.Teller.wanting g.T.Teller.part) (filler_loop l.fn.filler) (filler_laws l.fn.filler) tt l.fn.engine (outside (g.F.Files.faults l.fn.files) (g.T.Teller.faults l.fn.tell)) l.fn.tell
-      tt l.engine (outside (g.F.Files.faults l.files) (g.T.Teller.faults l.tell)) l.tell;
-  files : l.files ≡ l.fn.files;
+  going : Goes (hears g.T.Teller.wanting g.T.Teller.heard) (hears_part g.T.Teller.wanting g.T.Teller.part) (filler_loop l.fn.filler) (filler_laws l.fn.filler) tt l.fn.engine (outside (g.F.Files.shelf l.fn.files) (g.F.Files.faults l.fn.files) (g.T.Teller.faults l.fn.tell) (g.T.Teller.loan l.fn.tell)) l.fn.tell
+      tt l.engine (outside (g.F.Files.shelf l.files) (g.F.Files.faults l.files) (g.T.Teller.faults l.tell) (g.T.Teller.loan l.tell)) l.tell;
   begun : l.engine.begun ≡ l.begun;
   same : l.begun ≡ l.initial.engine.begun;
   limit : l.engine.limit ≡ l.initial.engine.limit;
 }
 
 abbrev pub decreases-tokens : goal.decreases-tokens
-decreases-tokens g l = room (state_of l.engine)
+decreases-tokens g l = held_room (g.F.Files.shelf l.files) l.engine

@@ -1,19 +1,20 @@
-use Rattle.std.proofs.Common.{Option, refl, rules}
+use Rattle.std.proofs.Common.{Option, rules}
 use Rattle.std.specs.Option.{option_map}
 use Rattle.texml_expand.specs.Fronts.{looked_at}
 use Rattle.texml_expand.specs.Quantities.{Looked}
 use Rattle.texml_assign.specs.declared.fillers.Filler.TheVariants.{Spaces}
 use Rattle.texml_assign.specs.Fillers.{first_behind, past_equals}
-use Rattle.texml_assign.proofs.Doing.{does_stop_sure, does_then_sure, does_silent_sure}
+use Rattle.texml_assign.proofs.Doing.{does_stop_sure, does_put}
 use Rattle.texml_assign.proofs.Quantities.{lawful_first, sure_past, past_decided, past_unlimited}
 use Rattle.texml_assign.proofs.fillers.optional_equals.Goals as goal
 
-pub returns-in_err-first-clause-does : goal.returns-in_err-first-clause-does
-returns-in_err-first-clause-does g c =
+pub returns-in_err-first : goal.returns-in_err-first
+returns-in_err-first g c =
     let h = does_stop_sure _ _ (first_behind Spaces) (λ o n. past_equals o) (lawful_first Spaces) sure_past _ _ _ _ _ _ _ c.requires.sound c.in_err-first.ensures.does in search (rules, h)
 
-pub returns-clause-does : goal.returns-clause-does
-returns-clause-does g c =
-    let mid = c.first_behind.new.engine in let new = c.past_equals.new.engine in let o : Option Looked = option_map (looked_at mid.names) c.in_ok-first.first in let r = c.past_equals.ensures in
-    does_then_sure _ _ (first_behind Spaces) (λ o n. past_equals o) (lawful_first Spaces) sure_past o c.past_equals.result _ mid new _ _ _ _ _ _ c.in_ok-first.ensures.does
-    (does_silent_sure _ _ (past_equals o) (past_decided o) (past_unlimited o) c.past_equals.result mid new _ _ _ _ _ _ refl refl refl r.is r.kept r.keeps r.advances)
+pub returns : goal.returns
+returns g c = record {
+  does =
+      let mid = c.first_behind.new.engine in let new = c.past_equals.new.engine in let o : Option Looked = option_map (looked_at mid.names) c.in_ok-first.first in let r = c.past_equals.ensures in
+      does_put _ _ _ (first_behind Spaces) past_equals (lawful_first Spaces) past_decided past_unlimited o c.past_equals.result _ mid new _ _ _ _ c.in_ok-first.ensures.does c.in_ok-first.ensures.takes r.is r.kept r.keeps r.advances r.files r.puts;
+}

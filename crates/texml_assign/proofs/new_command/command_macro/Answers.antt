@@ -42,8 +42,7 @@ returns-in-Ok-clause-does g c =
     does_then _ _ (λ n. parameter_count) (λ slots n. slots_read long slots) (lawful_plain parameter_count plain_parameter_count) (λ slots. lawful_plain (slots_read long slots) (plain_slots_read long slots)) slots _ _ _ _ _ _ _ _ _ _ f
     (does_then _ _ (λ n. first_default slots) (λ d n. default_read long slots d) (lawful_plain (first_default slots) (plain_first_default slots)) (λ d. lawful_plain (default_read long slots d) (plain_default_read long slots d)) d _ _ _ _ _ _ _ _ _ _ k
     (does_then _ _ (λ n. argument_body slots) (λ b n. body_read long slots d b) (lawful_plain (argument_body slots) (plain_argument_body slots)) (λ b. lawful_plain (body_read long slots d b) (plain_give _)) body _ _ _ _ _ _ _ _ _ _ m
-    (does_now _ _ (body_read long slots d body) (plain_give _) v e3 _ _ m.keeps.sound m.stops.kept
-    (ap (λ x. Done (Macro x) (state_of e3) nothing)
+    (does_now _ _ (body_read long slots d body) (plain_give _) v e3 _ _ m.keeps.sound m.holds.owns m.stops.kept (λ shelf. ap (λ x. Done (Macro x) (state_of shelf e3) nothing)
     (ap (λ o. command_of long slots o body) (sym (default_stays e2.names e3.names c.in_ok-default.default m.keeps.grows c.in_ok-default.ensures.within)) ∙ sym (command_at e3.names long slots c.in_ok-default.default c.in_ok-body.body c.in-Ok.made c.in-Ok.ensures))))))
 
 pub returns-in-Ok-clause-within : goal.returns-in-Ok-clause-within
@@ -61,4 +60,4 @@ returns-in-Err-clause-does g c =
     does_then _ _ (λ n. parameter_count) (λ slots n. slots_read long slots) (lawful_plain parameter_count plain_parameter_count) (λ slots. lawful_plain (slots_read long slots) (plain_slots_read long slots)) slots _ _ _ _ _ _ _ _ _ _ f
     (does_then _ _ (λ n. first_default slots) (λ d n. default_read long slots d) (lawful_plain (first_default slots) (plain_first_default slots)) (λ d. lawful_plain (default_read long slots d) (plain_default_read long slots d)) d _ _ _ _ _ _ _ _ _ _ k
     (does_then _ _ (λ n. argument_body slots) (λ b n. body_read long slots d b) (lawful_plain (argument_body slots) (plain_argument_body slots)) (λ b. lawful_plain (body_read long slots d b) (plain_give _)) body _ _ _ _ _ _ _ _ _ _ m
-    (does_out _ _ (λ n. body_read long slots d body) (lawful_plain (body_read long slots d body) (plain_give _)) c.no_memory.result e3 c.no_memory.new.self _ _ m.keeps.sound c.no_memory.ensures.is c.no_memory.ensures.kept)))
+    (does_out _ _ (λ n. body_read long slots d body) (lawful_plain (body_read long slots d body) (plain_give _)) c.no_memory.result e3 c.no_memory.new.self _ _ m.keeps.sound m.holds.owns c.no_memory.ensures.is c.no_memory.ensures.kept)))

@@ -12,6 +12,6 @@ pub returns-clause-does : goal.returns-clause-does
 returns-clause-does g c =
     let h = c.args.engine.now in let t = token_at h.names c.args.token in let mid = c.next_token.new.engine in
     let e = sym (c.is_equals.ensures h.names) ∙ c.if-not-is_equals.false in
-    does_as _ _ (λ n. behind_equals t) (λ n. behind_sign) _ h _ _ _ _ _ (λ n. ap (λ (b : Bool). (if b then behind_sign else give t) (state_of h)) e)
+    does_as _ _ (λ n. behind_equals t) (λ n. behind_sign) _ h _ _ _ _ _ (λ n shelf. ap (λ (b : Bool). (if b then behind_sign else give t) (state_of shelf h)) e)
     (does_then _ _ (λ n. next_token) (λ u n. behind_space u) (lawful_plain next_token plain_next) (λ u. lawful_plain (behind_space u) (plain_behind_space u)) (token_at mid.names c.in_ok-next.next) _ _ mid _ _ _ _ _ _ _
     c.in_ok-next.ensures.does c.behind_space.ensures.does)

@@ -8,4 +8,4 @@ use Rattle.texml_assign.proofs.operands.behind_space.Goals as goal
 pub returns-in-Err-clause-does : goal.returns-in-Err-clause-does
 returns-in-Err-clause-does g c =
     let t = token_at c.args.engine.now.names c.args.token in
-    does_out _ _ (λ n. behind_space t) (lawful_plain (behind_space t) (plain_behind_space t)) c.no_memory.result c.args.engine.now c.no_memory.new.self _ _ c.requires.sound c.no_memory.ensures.is c.no_memory.ensures.kept
+    does_out _ _ (λ n. behind_space t) (lawful_plain (behind_space t) (plain_behind_space t)) c.no_memory.result c.args.engine.now c.no_memory.new.self _ _ c.requires.sound c.requires.owns c.no_memory.ensures.is c.no_memory.ensures.kept

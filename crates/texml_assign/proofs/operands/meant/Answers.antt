@@ -27,7 +27,7 @@ returns-in-Ok-clause-does g c =
     let m = meaning_at mid.names c.in-Ok.meaning in
     does_then _ _ behind_spaces (λ t n. meant_behind t) lawful_spaces (λ t. lawful_plain (meant_behind t) (plain_meant_behind t)) t _ _ _ _ _ _ _ _ _ _ f
     (does_then _ _ (λ n. behind_equals t) (λ u n. meaning_now u) (lawful_plain (behind_equals t) (plain_behind_equals t)) (λ u. lawful_plain (meaning_now u) (plain_meaning_now u)) u _ _ mid mid _ _ _ _ _ _ k
-    (does_now _ _ (meaning_now u) (plain_meaning_now u) m mid _ _ k.keeps.sound k.stops.kept (ap (λ x. Done x (state_of mid) nothing) (sym c.in-Ok.ensures.means))))
+    (does_now _ _ (meaning_now u) (plain_meaning_now u) m mid _ _ k.keeps.sound k.holds.owns k.stops.kept (λ shelf. ap (λ x. Done x (state_of shelf mid) nothing) (sym c.in-Ok.ensures.means))))
 
 pub returns-in-Err-clause-does : goal.returns-in-Err-clause-does
 returns-in-Err-clause-does g c =
@@ -35,4 +35,4 @@ returns-in-Err-clause-does g c =
     let k = c.in_ok-token.ensures.does in let mid = c.behind_equals.new.engine in let u = token_at mid.names c.in_ok-token.token in
     does_then _ _ behind_spaces (λ t n. meant_behind t) lawful_spaces (λ t. lawful_plain (meant_behind t) (plain_meant_behind t)) t _ _ _ _ _ _ _ _ _ _ f
     (does_then _ _ (λ n. behind_equals t) (λ u n. meaning_now u) (lawful_plain (behind_equals t) (plain_behind_equals t)) (λ u. lawful_plain (meaning_now u) (plain_meaning_now u)) u _ _ mid c.no_memory.new.self _ _ _ _ _ _ k
-    (does_out _ _ (λ n. meaning_now u) (lawful_plain (meaning_now u) (plain_meaning_now u)) c.no_memory.result mid c.no_memory.new.self _ _ k.keeps.sound c.no_memory.ensures.is c.no_memory.ensures.kept))
+    (does_out _ _ (λ n. meaning_now u) (lawful_plain (meaning_now u) (plain_meaning_now u)) c.no_memory.result mid c.no_memory.new.self _ _ k.keeps.sound k.holds.owns c.no_memory.ensures.is c.no_memory.ensures.kept))

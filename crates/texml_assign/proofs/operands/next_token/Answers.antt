@@ -15,10 +15,13 @@ pub returns-in-Some-clause-does : goal.returns-in-Some-clause-does
 returns-in-Some-clause-does g c =
     let mid = c.token_or_end.new.engine in let f = rw c.in-Some.is at c.in_ok-next.ensures.does in let t = token_at mid.names c.in-Some.token in
     does_then _ _ (λ n. token_or_end) (λ o n. needed o) (lawful_plain token_or_end plain_token_or_end) (λ o. lawful_plain (needed o) (plain_needed o)) (Some t) _ _ mid mid _ _ _ _ _ _
-    f (does_now _ _ (needed (Some t)) (plain_needed (Some t)) t mid _ _ f.keeps.sound f.stops.kept refl)
+    f (does_now _ _ (needed (Some t)) (plain_needed (Some t)) t mid _ _ f.keeps.sound f.holds.owns f.stops.kept (λ shelf. refl))
 
 pub returns-in-None-clause-does : goal.returns-in-None-clause-does
 returns-in-None-clause-does g c =
     let mid = c.token_or_end.new.engine in let f = rw c.in-None.is at c.in_ok-next.ensures.does in
     does_then _ _ (λ n. token_or_end) (λ o n. needed o) (lawful_plain token_or_end plain_token_or_end) (λ o. lawful_plain (needed o) (plain_needed o)) None _ _ mid c.bare_fault.new.self _ _ _ _ _ _
-    f (does_fault _ _ (needed None) (plain_needed None) 4 c.bare_fault.result mid c.bare_fault.new.self _ _ refl c.bare_fault.ensures.is c.bare_fault.ensures.kept)
+    f (does_fault _ _ (needed None) (plain_needed None) 4 c.bare_fault.result mid c.bare_fault.new.self _ _ f.holds.owns (λ shelf. refl) c.bare_fault.ensures.is c.bare_fault.ensures.kept)
+
+pub returns-in-Some-clause-takes : goal.returns-in-Some-clause-takes
+returns-in-Some-clause-takes g c = rw c.in-Some.is at c.in_ok-next.ensures.takes

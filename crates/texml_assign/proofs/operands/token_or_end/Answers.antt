@@ -1,35 +1,39 @@
-use Rattle.std.proofs.Common.{Some, None, Ok, Err, refl, ap, rules}
-use Rattle.texml_token.specs.Numbers.{token_at}
+use Rattle.std.proofs.Common.{Ok, Err, Some, None, Option, refl, rules}
+use Rattle.std.specs.Option.{option_map}
+use Rattle.texml_input.specs.Next.{Taken}
 use Rattle.texml_expand.specs.State.{give}
 use Rattle.texml_expand.specs.Expand.{take}
-use Rattle.texml_expand.specs.Held.{state_of, read_at}
 use Rattle.texml_expand.specs.Hearing.{hears, hears_part}
-use Rattle.texml_assign.specs.Operands.{token_of, token_or_end}
-use Rattle.texml_assign.proofs.Doing.{silent_then, silent_stop, does_silent, advances_progress}
-use Rattle.texml_assign.proofs.Commands.{plain_token_or_end}
+use Rattle.texml_expand.specs.Held.{read_at}
+use Rattle.texml_assign.specs.Operands.{token_of}
+use Rattle.texml_assign.proofs.Readings.{lawful_plain, plain_give}
+use Rattle.texml_assign.proofs.Doing.{does_reads, does_then, does_stop, does_now, no_more}
+use Rattle.texml_assign.proofs.Commands.{plain_take}
 use Rattle.texml_assign.proofs.operands.token_or_end.Goals as goal
 
 pub returns-in_err-taken-clause-does : goal.returns-in_err-taken-clause-does
 returns-in_err-taken-clause-does g c =
-    let f = c.in_err-taken.ensures in let s = state_of c.args.engine.now in let new = c.take.new.self in let e = c.in_err-taken.field-0.0 in
-    let h = does_silent (hears g.T.Teller.wanting g.T.Teller.heard) (hears_part g.T.Teller.wanting g.T.Teller.part) token_or_end plain_token_or_end (Err e) c.args.engine.now new
-    (g.F.Files.faults c.args.files.now) (g.F.Files.faults c.take.new.files) (g.T.Teller.faults c.args.tell.now) (g.T.Teller.faults c.take.new.tell) c.args.tell.now c.take.new.tell
-    (ap g.F.Files.faults f.files) (ap g.T.Teller.faults f.tell) f.tell
-    (silent_stop (take s) (λ o. give (token_of o)) e (state_of new) (f.takes c.requires.running)) (f.kept c.requires.running) tt (advances_progress c.args.engine.now new f.progress) in
+    let f = c.in_err-taken.ensures in let run = c.requires.running in let new = c.take.new.self in
+    let s = does_reads (hears g.T.Teller.wanting g.T.Teller.heard) (hears_part g.T.Teller.wanting g.T.Teller.part) take plain_take (option_map (read_at new.names)) (Err c.in_err-taken.field-0.0) c.args.engine.now new _ _ _ _ f.tell (f.takes run) (f.stops run) (f.limit run) tt f.progress f.holds tt in
+    let h = does_stop _ _ (λ n. take) (λ o n. give (token_of o)) (lawful_plain take plain_take) (λ o. lawful_plain (give (token_of o)) (plain_give _)) _ _ _ _ _ _ _ c.requires.sound s in
     search (rules, h)
 
 pub returns-in-Some-clause-does : goal.returns-in-Some-clause-does
 returns-in-Some-clause-does g c =
-    let f = c.in_ok-taken.ensures in let s = state_of c.args.engine.now in let new = c.take.new.self in
-    let r = Ok (Some (token_at new.names c.in-Some.read.token)) in
-    does_silent _ _ token_or_end plain_token_or_end r c.args.engine.now new _ _ _ _ _ _ (ap g.F.Files.faults f.files) (ap g.T.Teller.faults f.tell) f.tell
-    (silent_then (take s) (λ o. give (token_of o)) (Some (read_at new.names c.in-Some.read)) (state_of new) r (state_of new) (rw c.in-Some.is at (f.takes c.requires.running)) refl) (f.kept c.requires.running)
-    (f.keeps c.requires.running) (advances_progress c.args.engine.now new f.progress)
+    let f = c.in_ok-taken.ensures in let run = c.requires.running in let new = c.take.new.self in let o = Some (read_at new.names c.in-Some.read) in
+    let s = rw c.in-Some.is at (does_reads (hears g.T.Teller.wanting g.T.Teller.heard) (hears_part g.T.Teller.wanting g.T.Teller.part) take plain_take (option_map (read_at new.names)) (Ok c.in_ok-taken.taken) c.args.engine.now new _ _ _ _ f.tell (f.takes run) (f.stops run) tt (f.keeps run) f.progress f.holds (no_more (f.lower run))) in
+    does_then _ _ (λ n. take) (λ o n. give (token_of o)) (lawful_plain take plain_take) (λ o. lawful_plain (give (token_of o)) (plain_give _)) o _ _ new new _ _ _ _ _ _ s
+    (does_now _ _ (give (token_of o)) (plain_give _) (token_of o) new _ _ s.keeps.sound s.holds.owns s.stops.kept (λ shelf. refl))
+
+pub returns-in-Some-clause-takes : goal.returns-in-Some-clause-takes
+returns-in-Some-clause-takes g c = rw c.in-Some.is at (c.in_ok-taken.ensures.lower c.requires.running)
 
 pub returns-in-None-clause-does : goal.returns-in-None-clause-does
 returns-in-None-clause-does g c =
-    let f = c.in_ok-taken.ensures in let s = state_of c.args.engine.now in let new = c.take.new.self in
-    let r = Ok None in
-    does_silent _ _ token_or_end plain_token_or_end r c.args.engine.now new _ _ _ _ _ _ (ap g.F.Files.faults f.files) (ap g.T.Teller.faults f.tell) f.tell
-    (silent_then (take s) (λ o. give (token_of o)) None (state_of new) r (state_of new) (rw c.in-None.is at (f.takes c.requires.running)) refl) (f.kept c.requires.running)
-    (f.keeps c.requires.running) (advances_progress c.args.engine.now new f.progress)
+    let f = c.in_ok-taken.ensures in let run = c.requires.running in let new = c.take.new.self in let o : Option Taken = None in
+    let s = rw c.in-None.is at (does_reads (hears g.T.Teller.wanting g.T.Teller.heard) (hears_part g.T.Teller.wanting g.T.Teller.part) take plain_take (option_map (read_at new.names)) (Ok c.in_ok-taken.taken) c.args.engine.now new _ _ _ _ f.tell (f.takes run) (f.stops run) tt (f.keeps run) f.progress f.holds (no_more (f.lower run))) in
+    does_then _ _ (λ n. take) (λ o n. give (token_of o)) (lawful_plain take plain_take) (λ o. lawful_plain (give (token_of o)) (plain_give _)) o _ _ new new _ _ _ _ _ _ s
+    (does_now _ _ (give (token_of o)) (plain_give _) (token_of o) new _ _ s.keeps.sound s.holds.owns s.stops.kept (λ shelf. refl))
+
+pub returns-in-None-clause-takes : goal.returns-in-None-clause-takes
+returns-in-None-clause-takes g c = rw c.in-None.is at (c.in_ok-taken.ensures.lower c.requires.running)

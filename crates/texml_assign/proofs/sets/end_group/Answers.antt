@@ -1,13 +1,15 @@
 use Rattle.std.proofs.Common.{◌≡◌, length, subst, sym, ap, ◌∙◌, Ok, Err}
 use Rattle.std.proofs.lemmas.Result.{on_ok_weaker}
-use Rattle.texml_token.specs.Numbers.{TokensWithin}
+use Rattle.texml_token.specs.Numbers.{tokens_at, TokensWithin}
 use Rattle.texml_scope.specs.Groups.{end_group}
+use Rattle.texml_expand.specs.Expand.{put}
 use Rattle.texml_scope.specs.Values.{same_kind}
 use Rattle.texml_scope.specs.Shown.{Shown, world_of}
 use Rattle.texml_expand.specs.Held.{Held}
 use Rattle.texml_expand.proofs.Fronts.{kept_then}
-use Rattle.texml_assign.proofs.Doing.{advances_then}
-use Rattle.texml_assign.proofs.Worlds.{scope_kept, end_puts, end_stops, end_keeps, advances_wrote, advances_stops, advances_put}
+use Rattle.texml_expand.proofs.Running.{files_stopped}
+use Rattle.texml_assign.proofs.Doing.{advances_then, files_then}
+use Rattle.texml_assign.proofs.Worlds.{scope_kept, end_puts, end_stops, end_keeps, puts_ended, files_wrote, advances_wrote, advances_stops, advances_put}
 use Rattle.texml_assign.proofs.sets.end_group.Goals as goal
 
 pub put-requires-clause-sound : goal.put-requires-clause-sound
@@ -26,8 +28,7 @@ pub returns-in-Ok-clause-ends : goal.returns-in-Ok-clause-ends
 returns-in-Ok-clause-ends c =
     let h = c.args.engine.now in let s = c.end-ended.new.self in
     let running = ap (λ (h : Held). h.stop) c.wrote.ensures ∙ c.requires.running in
-    end_puts h c.wrote.new.self c.put.new.self s c.args.kind c.in-Ok.after _ c.put.result _ c.requires.sound c.requires.kind
-    (subst (λ (w : Shown). (world_of s, Ok c.in-Ok.after) ≡ end_group same_kind c.args.kind (world_of w)) c.scope.ensures.value c.in-Ok.ensures.ends) c.wrote.ensures (c.put.ensures.puts running)
+    end_puts h c.wrote.new.self c.put.new.self s c.args.kind c.in-Ok.after _ c.put.result c.requires.sound c.requires.kind (subst (λ (w : Shown). (world_of s, Ok c.in-Ok.after) ≡ end_group same_kind c.args.kind (world_of w)) c.scope.ensures.value c.in-Ok.ensures.ends) c.wrote.ensures (c.put.ensures.put running)
 
 pub returns-in-Ok-clause-keeps : goal.returns-in-Ok-clause-keeps
 returns-in-Ok-clause-keeps c =
@@ -39,14 +40,24 @@ returns-in-Ok-clause-keeps c =
 pub returns-in-Ok-clause-advances : goal.returns-in-Ok-clause-advances
 returns-in-Ok-clause-advances c =
     let h = c.args.engine.now in let running = ap (λ (h : Held). h.stop) c.wrote.ensures ∙ c.requires.running in
-    advances_then h c.wrote.new.self c.put.new.self (advances_wrote h c.wrote.new.self c.end-ended.new.self _ c.wrote.ensures) (advances_put c.wrote.new.self c.put.new.self c.put.result _ (c.put.ensures.puts running) (c.put.ensures.rest running))
+    advances_then h c.wrote.new.self c.put.new.self (advances_wrote h c.wrote.new.self c.end-ended.new.self _ c.wrote.ensures) (advances_put c.wrote.new.self c.put.new.self (put (tokens_at c.wrote.new.self.names c.in-Ok.after)) c.put.result (c.put.ensures.put running) (c.put.ensures.rest running))
+
+pub returns-in-Ok-clause-files : goal.returns-in-Ok-clause-files
+returns-in-Ok-clause-files c = files_then (files_wrote c.args.engine.now c.wrote.new.self c.end-ended.new.self _ c.wrote.ensures) c.put.ensures.files
+
+pub returns-in-Ok-clause-puts : goal.returns-in-Ok-clause-puts
+returns-in-Ok-clause-puts c =
+    let h = c.args.engine.now in let s = c.end-ended.new.self in
+    let running = ap (λ (h : Held). h.stop) c.wrote.ensures ∙ c.requires.running in
+    on_ok_weaker c.put.result (puts_ended h c.wrote.new.self c.put.new.self s c.args.kind c.in-Ok.after _ (subst (λ (w : Shown). (world_of s, Ok c.in-Ok.after) ≡ end_group same_kind c.args.kind (world_of w)) c.scope.ensures.value c.in-Ok.ensures.ends) c.wrote.ensures) (c.put.ensures.puts running)
 
 pub returns-in-Err-clause-ends : goal.returns-in-Err-clause-ends
-returns-in-Err-clause-ends c =
+returns-in-Err-clause-ends c = λ shelf.
     let s = c.end-ended.new.self in let f = c.in-Err.fault in
-    end_stops c.args.engine.now c.wrote.new.self c.bare_fault.new.self s c.args.kind _ c.bare_fault.result f c.requires.sound c.requires.kind
-    (subst (λ (w : Shown). (world_of s, Err f) ≡ end_group same_kind c.args.kind (world_of w)) c.scope.ensures.value c.in-Err.ensures.ends) c.wrote.ensures
-    (rw (← c.end_code.ensures) c.bare_fault.ensures.is)
+    end_stops shelf c.args.engine.now c.wrote.new.self c.bare_fault.new.self s c.args.kind _ c.bare_fault.result f c.requires.sound c.requires.kind (subst (λ (w : Shown). (world_of s, Err f) ≡ end_group same_kind c.args.kind (world_of w)) c.scope.ensures.value c.in-Err.ensures.ends) c.wrote.ensures (rw (← c.end_code.ensures) c.bare_fault.ensures.is)
 
 pub returns-in-Err-clause-advances : goal.returns-in-Err-clause-advances
 returns-in-Err-clause-advances c = advances_stops c.args.engine.now c.wrote.new.self c.bare_fault.new.self c.end-ended.new.self _ _ c.wrote.ensures c.bare_fault.ensures.kept
+
+pub returns-in-Err-clause-files : goal.returns-in-Err-clause-files
+returns-in-Err-clause-files c = files_then (files_wrote c.args.engine.now c.wrote.new.self c.end-ended.new.self _ c.wrote.ensures) (files_stopped c.wrote.new.self c.bare_fault.new.self _ c.bare_fault.ensures.kept)

@@ -1,32 +1,22 @@
-use Rattle.std.proofs.Common.{Bool, true, false, if◌then◌else◌, Ok, Err, None, Some, Option, refl, sym, ap, subst, ◌∙◌, rules, codes}
-use Rattle.std.specs.Option.{option_map}
-use Rattle.texml_scope.specs.declared.values.ValueOf.TheVariants as values
-use Rattle.texml_scope.specs.Numbers.{key_at, meaning_at, value_at}
-use Rattle.texml_token.specs.Numbers.{token_at, tokens_at}
-use Rattle.texml_expand.specs.State.{give, fail, change, Done, nothing}
-use Rattle.texml_expand.specs.Held.{Held, state_of, ok_at, Kept}
-use Rattle.texml_expand.specs.Contract.{Silent}
-use Rattle.texml_expand.specs.Fronts.{looked_at}
-use Rattle.texml_expand.specs.Hearing.{hears, hears_part}
-use Rattle.texml_expand.specs.Absorb.{absorb}
-use Rattle.texml_expand.specs.Expand.{fetch, read_int, read_dimen, read_glue, read_keyword, read_index}
-use Rattle.texml_assign.proofs.Readings.{lawful_plain, plain_give}
-use Rattle.texml_assign.proofs.Parts.{plain_absorb, plain_set, plain_assign, plain_next_key}
-use Rattle.texml_assign.proofs.Doing.{does_call, does_then, does_stop, does_now, does_silent, does_fault, does_out, kept_of, keeps_of, advances_progress, advances_stopped}
-use Rattle.texml_assign.specs.Sets.{set, assign}
+use Rattle.texml_scope.specs.Numbers.{key_at}
+use Rattle.texml_expand.proofs.Stopping.{passed_on}
+use Rattle.texml_assign.proofs.Doing.{does_then, does_stop}
 use Rattle.texml_assign.specs.ShortNames.{short_number}
 use Rattle.texml_assign.specs.Fillers.{optional_equals}
 use Rattle.texml_assign.proofs.Quantities.{lawful_equals, lawful_short_number}
 use Rattle.texml_assign.proofs.Worlds.{key_stays}
 use Rattle.texml_assign.proofs.short_names.short_equals.Goals as goal
 
-pub returns-in_err-optional_equals-clause-does : goal.returns-in_err-optional_equals-clause-does
-returns-in_err-optional_equals-clause-does g c =
+pub returns-in_err-optional_equals : goal.returns-in_err-optional_equals
+returns-in_err-optional_equals g c =
     let old = c.args.engine.now in
-    let h = does_stop _ _ optional_equals (λ _. short_number c.args.global c.args.what (key_at old.names c.args.key)) lawful_equals (λ _. lawful_short_number c.args.global c.args.what (key_at old.names c.args.key)) _ _ _ _ _ _ _ c.requires.sound c.in_err-optional_equals.ensures.does in search (rules, h)
+    let h = does_stop _ _ optional_equals (λ _. short_number c.args.global c.args.what (key_at old.names c.args.key)) lawful_equals (λ _. lawful_short_number c.args.global c.args.what (key_at old.names c.args.key)) _ _ _ _ _ _ _ c.requires.sound c.in_err-optional_equals.ensures.does in
+    record { does = rw (passed_on c.from_residual.result c.in_err-optional_equals.field-0.0 c.from_residual.ensures) h }
 
-pub returns-clause-does : goal.returns-clause-does
-returns-clause-does g c =
-    let old = c.args.engine.now in let mid = c.optional_equals.new.engine in let new = c.short_number.new.engine in
-    does_then _ _ optional_equals (λ _. short_number c.args.global c.args.what (key_at old.names c.args.key)) lawful_equals (λ _. lawful_short_number c.args.global c.args.what (key_at old.names c.args.key)) tt c.short_number.result _ mid new _ _ _ _ _ _ c.in_ok-optional_equals.ensures.does
-    (rw (← (key_stays old.names mid.names c.in_ok-optional_equals.ensures.does.keeps.grows c.args.key c.requires.key)) c.short_number.ensures.does)
+pub returns : goal.returns
+returns g c = record {
+  does =
+      let old = c.args.engine.now in let mid = c.optional_equals.new.engine in let new = c.short_number.new.engine in
+      does_then _ _ optional_equals (λ _. short_number c.args.global c.args.what (key_at old.names c.args.key)) lawful_equals (λ _. lawful_short_number c.args.global c.args.what (key_at old.names c.args.key)) tt c.short_number.result _ mid new _ _ _ _ _ _ c.in_ok-optional_equals.ensures.does
+      (rw (← (key_stays old.names mid.names c.in_ok-optional_equals.ensures.does.keeps.grows c.args.key c.requires.key)) c.short_number.ensures.does);
+}

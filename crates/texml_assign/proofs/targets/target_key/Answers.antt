@@ -1,4 +1,4 @@
-use Rattle.std.proofs.Common.{sym, ap, ◌∙◌, rules}
+use Rattle.std.proofs.Common.{sym, ap, ◌∙◌}
 use Rattle.texml_scope.specs.Numbers.{key_at}
 use Rattle.texml_expand.specs.Variables.{key_of}
 use Rattle.texml_expand.specs.State.{give, Done, nothing}
@@ -12,5 +12,4 @@ use Rattle.texml_assign.proofs.targets.target_key.Goals as goal
 pub returns-in-Named-clause-does : goal.returns-in-Named-clause-does
 returns-in-Named-clause-does g c =
     let h = c.args.engine.now in let r = c.in-Named.registers in let n = c.in-Named.number in
-    rw c.in-Named.is (does_now _ _ (give (key_of (variable_in r) n)) (plain_give (key_of (variable_in r) n)) (key_at h.names c.register_key.result) h _ _ c.requires.sound c.requires.running
-    (ap (λ k. Done k (state_of h) nothing) (named_key h.names r n ∙ ap (key_at h.names) (sym c.register_key.ensures))))
+    rw c.in-Named.is (does_now _ _ (give (key_of (variable_in r) n)) (plain_give (key_of (variable_in r) n)) (key_at h.names c.register_key.result) h _ _ c.requires.sound c.requires.owns c.requires.running (λ shelf. ap (λ k. Done k (state_of shelf h) nothing) (named_key h.names r n ∙ ap (key_at h.names) (sym c.register_key.ensures))))

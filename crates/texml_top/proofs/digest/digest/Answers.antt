@@ -3,57 +3,61 @@ use Rattle.std.specs.Option.{option_map}
 use Rattle.texml_token.specs.Numbers.{token_at}
 use Rattle.texml_expand.specs.State.{give}
 use Rattle.texml_expand.specs.Expand.{fetch}
-use Rattle.texml_expand.proofs.Leading.{lower_then}
 use Rattle.texml_expand.specs.Held.{state_of}
 use Rattle.texml_expand.specs.Contract.{outside}
 use Rattle.texml_expand.specs.Hearing.{hears, hears_part}
 use Rattle.texml_assign.specs.Loop.{On}
-use Rattle.texml_assign.proofs.Readings.{plain_give, follows_lower}
-use Rattle.texml_assign.proofs.Doing.{Goes, does_call, does_silent, goes_start, goes_stops, goes_ends, goes_turn_stops, goes_on}
+use Rattle.texml_assign.proofs.Readings.{plain_give}
+use Rattle.texml_assign.proofs.Doing.{Goes, does_call, goes_start, goes_stops, goes_ends, goes_turn_stops, goes_on, does_local, shrinks_on, no_more}
 use Rattle.texml_top.specs.declared.gather.Gathered.{Gathered}
 use Rattle.texml_top.specs.Gather.{nothing_yet, all_of}
-use Rattle.texml_top.specs.Digest.{digest_turn, digestion}
-use Rattle.texml_top.proofs.Digesting.{lawful_turn, digestion_laws}
+use Rattle.texml_top.specs.Digest.{digestion}
+use Rattle.texml_top.proofs.Digesting.{digestion_laws}
 use Rattle.texml_top.proofs.digest.digest.Goals as goal
 
 pub rounds-init : goal.rounds-init
 rounds-init g c =
-    let x = outside (g.F.Files.faults c.args.files.now) (g.T.Teller.faults c.args.tell.now) in
+    let x = outside (g.F.Files.shelf c.args.files.now) (g.F.Files.faults c.args.files.now) (g.T.Teller.faults c.args.tell.now) (g.T.Teller.loan c.args.tell.now) in
     record {
       going = subst (λ (l : Gathered). Goes (hears g.T.Teller.wanting g.T.Teller.heard) (hears_part g.T.Teller.wanting g.T.Teller.part) digestion digestion_laws nothing_yet c.args.engine.now x c.args.tell.now l c.args.engine.now x c.args.tell.now) (sym c.new-seen.ensures)
-          (goes_start (hears g.T.Teller.wanting g.T.Teller.heard) (hears_part g.T.Teller.wanting g.T.Teller.part) digestion digestion_laws nothing_yet c.args.engine.now x c.args.tell.now c.requires.running c.requires.sound);
-      files = refl;
+          (goes_start (hears g.T.Teller.wanting g.T.Teller.heard) (hears_part g.T.Teller.wanting g.T.Teller.part) digestion digestion_laws nothing_yet c.args.engine.now x c.args.tell.now c.requires.running c.requires.sound c.requires.owns);
     }
 
-pub returns-in_err-token-clause-does : goal.returns-in_err-token-clause-does
-returns-in_err-token-clause-does g c =
-    let i = c.tokens.invariant in let run = i.going.running in let f = c.in_err-token.ensures in let mid = c.fetch.new.self in
-    let s = does_call (hears g.T.Teller.wanting g.T.Teller.heard) (hears_part g.T.Teller.wanting g.T.Teller.part) fetch (option_map (token_at mid.names)) (Err c.in_err-token.field-0.0) c.tokens.engine mid _ _ _ _ (f.follows run) (f.stops run) (f.limit run) tt f.progress in
-    let h = goes_stops _ _ digestion digestion_laws _ nothing_yet c.tokens.seen _ _ _ _ _ _ _ _ _ i.going s in search (rules, h)
+pub returns-in_err-token : goal.returns-in_err-token
+returns-in_err-token g c = record {
+  does =
+      let i = c.tokens.invariant in let run = i.going.running in let f = c.in_err-token.ensures in let mid = c.fetch.new.self in
+      let s = does_call (hears g.T.Teller.wanting g.T.Teller.heard) (hears_part g.T.Teller.wanting g.T.Teller.part) fetch (option_map (token_at mid.names)) (Err c.in_err-token.field-0.0) c.tokens.engine mid _ _ _ _ (f.follows run) (f.stops run) (f.limit run) tt f.progress f.holds tt in
+      let h = goes_stops _ _ digestion digestion_laws _ nothing_yet c.tokens.seen _ _ _ _ _ _ _ _ _ i.going s in search (rules, h);
+}
 
-pub returns-in-None-clause-does : goal.returns-in-None-clause-does
-returns-in-None-clause-does g c =
-    let i = c.tokens.invariant in let run = i.going.running in let f = c.in_ok-token.ensures in let mid = c.fetch.new.self in let seen = c.tokens.seen in
-    let s = rw c.in-None.is at (does_call (hears g.T.Teller.wanting g.T.Teller.heard) (hears_part g.T.Teller.wanting g.T.Teller.part) fetch (option_map (token_at mid.names)) _ c.tokens.engine mid _ _ _ _ (f.follows run) (f.stops run) tt (f.keeps run) f.progress) in
-    let e = c.end_of.ensures in let r = c.end_of.result in let new = c.end_of.new.engine in
-    goes_ends _ _ digestion digestion_laws r nothing_yet seen _ _ mid new _ _ _ _ _ _ _ _ i.going s (does_silent _ _ (give (all_of seen)) (plain_give (all_of seen)) r mid new _ _ _ _ _ _ refl refl refl e.gives e.kept e.keeps e.advances)
+pub returns-in-None : goal.returns-in-None
+returns-in-None g c = record {
+  does =
+      let i = c.tokens.invariant in let run = i.going.running in let f = c.in_ok-token.ensures in let mid = c.fetch.new.self in let seen = c.tokens.seen in
+      let s = rw c.in-None.is at (does_call (hears g.T.Teller.wanting g.T.Teller.heard) (hears_part g.T.Teller.wanting g.T.Teller.part) fetch (option_map (token_at mid.names)) _ c.tokens.engine mid _ _ _ _ (f.follows run) (f.stops run) tt (f.keeps run) f.progress f.holds (no_more (f.lower run))) in
+      let e = c.end_of.ensures in let r = c.end_of.result in let new = c.end_of.new.engine in
+      goes_ends _ _ digestion digestion_laws r nothing_yet seen _ _ mid new _ _ _ _ _ _ _ _ i.going s (does_local _ _ (give (all_of seen)) (plain_give (all_of seen)) r mid new _ _ s.holds.owns e.gives e.kept e.keeps e.advances e.files e.puts);
+}
 
-pub returns-in_err-digest_turn-clause-does : goal.returns-in_err-digest_turn-clause-does
-returns-in_err-digest_turn-clause-does g c =
-    let i = c.tokens.invariant in let run = i.going.running in let f = c.in_ok-token.ensures in let mid = c.fetch.new.self in let seen = c.tokens.seen in
-    let s = rw c.in-Some.is at (does_call (hears g.T.Teller.wanting g.T.Teller.heard) (hears_part g.T.Teller.wanting g.T.Teller.part) fetch (option_map (token_at mid.names)) _ c.tokens.engine mid _ _ _ _ (f.follows run) (f.stops run) tt (f.keeps run) f.progress) in
-    let t = token_at mid.names c.in-Some.token in
-    let h = goes_turn_stops _ _ digestion digestion_laws t _ nothing_yet seen _ _ mid _ _ _ _ _ _ _ _ _ i.going s c.in_err-digest_turn.ensures.does in
-    search (rules, h)
+pub returns-in_err-digest_turn : goal.returns-in_err-digest_turn
+returns-in_err-digest_turn g c = record {
+  does =
+      let i = c.tokens.invariant in let run = i.going.running in let f = c.in_ok-token.ensures in let mid = c.fetch.new.self in let seen = c.tokens.seen in
+      let s = rw c.in-Some.is at (does_call (hears g.T.Teller.wanting g.T.Teller.heard) (hears_part g.T.Teller.wanting g.T.Teller.part) fetch (option_map (token_at mid.names)) _ c.tokens.engine mid _ _ _ _ (f.follows run) (f.stops run) tt (f.keeps run) f.progress f.holds (no_more (f.lower run))) in
+      let t = token_at mid.names c.in-Some.token in
+      let h = goes_turn_stops _ _ digestion digestion_laws t _ nothing_yet seen _ _ mid _ _ _ _ _ _ _ _ _ i.going s c.in_err-digest_turn.ensures.does in
+      search (rules, h);
+}
 
 pub rounds-smaller : goal.rounds-smaller
 rounds-smaller g c =
     let i = c.tokens.invariant in let run = i.going.running in let f = c.in_ok-token.ensures in let mid = c.fetch.new.self in let seen = c.tokens.seen in
-    let s = rw c.in-Some.is at (does_call (hears g.T.Teller.wanting g.T.Teller.heard) (hears_part g.T.Teller.wanting g.T.Teller.part) fetch (option_map (token_at mid.names)) _ c.tokens.engine mid _ _ _ _ (f.follows run) (f.stops run) tt (f.keeps run) f.progress) in
+    let s = rw c.in-Some.is at (does_call (hears g.T.Teller.wanting g.T.Teller.heard) (hears_part g.T.Teller.wanting g.T.Teller.part) fetch (option_map (token_at mid.names)) _ c.tokens.engine mid _ _ _ _ (f.follows run) (f.stops run) tt (f.keeps run) f.progress f.holds (no_more (f.lower run))) in
     let t = token_at mid.names c.in-Some.token in
     let d = c.in_ok-digest_turn.ensures.does in let far = c.digest_turn.new.engine in let more = c.digest_turn.new.seen in
-    let l = rw c.in-Some.is at (f.lower run) in let k = follows_lower _ _ (digest_turn seen t) (lawful_turn seen t) (On more) (state_of mid) (state_of far) _ _ d.follows in
-    let both = lower_then 1 0 1 (state_of c.tokens.engine) (state_of mid) (state_of far) l k (omega arith) in
+    let l = rw c.in-Some.is at (f.lower run) in let k = d.shrinks in
+    let both = shrinks_on (no_more l) k in
     let ne = c.if-begun.true in let is = c.begun.ensures in let begun = i.begun in let same = i.same in let limit = i.limit in let low = both.begun in let lim = both.limit in
     let w = both.within (omega (arith, ne)) in
     omega (arith, ne)
@@ -61,35 +65,33 @@ rounds-smaller g c =
 pub tokens-smaller : goal.tokens-smaller
 tokens-smaller g c =
     let i = c.tokens.invariant in let run = i.going.running in let f = c.in_ok-token.ensures in let mid = c.fetch.new.self in let seen = c.tokens.seen in
-    let s = rw c.in-Some.is at (does_call (hears g.T.Teller.wanting g.T.Teller.heard) (hears_part g.T.Teller.wanting g.T.Teller.part) fetch (option_map (token_at mid.names)) _ c.tokens.engine mid _ _ _ _ (f.follows run) (f.stops run) tt (f.keeps run) f.progress) in
+    let s = rw c.in-Some.is at (does_call (hears g.T.Teller.wanting g.T.Teller.heard) (hears_part g.T.Teller.wanting g.T.Teller.part) fetch (option_map (token_at mid.names)) _ c.tokens.engine mid _ _ _ _ (f.follows run) (f.stops run) tt (f.keeps run) f.progress f.holds (no_more (f.lower run))) in
     let t = token_at mid.names c.in-Some.token in
     let d = c.in_ok-digest_turn.ensures.does in let far = c.digest_turn.new.engine in let more = c.digest_turn.new.seen in
-    let l = rw c.in-Some.is at (f.lower run) in let k = follows_lower _ _ (digest_turn seen t) (lawful_turn seen t) (On more) (state_of mid) (state_of far) _ _ d.follows in
+    let l = rw c.in-Some.is at (f.lower run) in let k = d.shrinks in
     let same = sym c.begun.ensures ∙ c.if-begun.false ∙ sym i.begun in let low = l.begun in let low' = k.begun in
-    let size = l.size (omega arith) in let size' = k.size (omega arith) in
+    let room = l.room (omega arith) in let room' = k.room (omega arith) in
     omega arith
 
 pub rounds-preserved : goal.rounds-preserved
 rounds-preserved g c =
     let i = c.tokens.invariant in let run = i.going.running in let f = c.in_ok-token.ensures in let mid = c.fetch.new.self in let seen = c.tokens.seen in
-    let s = rw c.in-Some.is at (does_call (hears g.T.Teller.wanting g.T.Teller.heard) (hears_part g.T.Teller.wanting g.T.Teller.part) fetch (option_map (token_at mid.names)) _ c.tokens.engine mid _ _ _ _ (f.follows run) (f.stops run) tt (f.keeps run) f.progress) in
+    let s = rw c.in-Some.is at (does_call (hears g.T.Teller.wanting g.T.Teller.heard) (hears_part g.T.Teller.wanting g.T.Teller.part) fetch (option_map (token_at mid.names)) _ c.tokens.engine mid _ _ _ _ (f.follows run) (f.stops run) tt (f.keeps run) f.progress f.holds (no_more (f.lower run))) in
     let t = token_at mid.names c.in-Some.token in
     let d = c.in_ok-digest_turn.ensures.does in let far = c.digest_turn.new.engine in let more = c.digest_turn.new.seen in
     record {
       going = goes_on _ _ digestion digestion_laws t nothing_yet seen more _ _ mid far _ _ _ _ _ _ _ _ i.going s d;
-      files = c.in_ok-digest_turn.ensures.files ∙ f.files ∙ i.files;
     }
 
 pub tokens-preserved : goal.tokens-preserved
 tokens-preserved g c =
     let i = c.tokens.invariant in let run = i.going.running in let f = c.in_ok-token.ensures in let mid = c.fetch.new.self in let seen = c.tokens.seen in
-    let s = rw c.in-Some.is at (does_call (hears g.T.Teller.wanting g.T.Teller.heard) (hears_part g.T.Teller.wanting g.T.Teller.part) fetch (option_map (token_at mid.names)) _ c.tokens.engine mid _ _ _ _ (f.follows run) (f.stops run) tt (f.keeps run) f.progress) in
+    let s = rw c.in-Some.is at (does_call (hears g.T.Teller.wanting g.T.Teller.heard) (hears_part g.T.Teller.wanting g.T.Teller.part) fetch (option_map (token_at mid.names)) _ c.tokens.engine mid _ _ _ _ (f.follows run) (f.stops run) tt (f.keeps run) f.progress f.holds (no_more (f.lower run))) in
     let t = token_at mid.names c.in-Some.token in
     let d = c.in_ok-digest_turn.ensures.does in let far = c.digest_turn.new.engine in let more = c.digest_turn.new.seen in
-    let l = rw c.in-Some.is at (f.lower run) in let k = follows_lower _ _ (digest_turn seen t) (lawful_turn seen t) (On more) (state_of mid) (state_of far) _ _ d.follows in
+    let l = rw c.in-Some.is at (f.lower run) in let k = d.shrinks in
     record {
       going = goes_on _ _ digestion digestion_laws t nothing_yet seen more _ _ mid far _ _ _ _ _ _ _ _ i.going s d;
-      files = c.in_ok-digest_turn.ensures.files ∙ f.files ∙ i.files;
       begun = sym c.begun.ensures ∙ c.if-begun.false;
       same = i.same;
       limit = k.limit ∙ l.limit ∙ i.limit;

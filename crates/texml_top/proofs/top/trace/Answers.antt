@@ -1,21 +1,21 @@
 use Rattle.texml_watch.specs.Lending.{lent_by}
-use Rattle.texml_top.proofs.Ending.{expand_loan, expand_done, expand_stops, expand_lines, stop_files, stop_sink, stop_limit}
+use Rattle.texml_top.proofs.Ending.{expand_done, expand_stops, expand_lines, stop_files, stop_sink, stop_limit}
 use Rattle.texml_top.proofs.top.trace.Goals as goal
 
 pub returns-in-Ok-clause-loan : goal.returns-in-Ok-clause-loan
-returns-in-Ok-clause-loan g c = expand_loan (lent_by g.S.Sink.ink g.S.Sink.faults) _ _ _ _ _ c.in-Ok.ensures.does.follows
+returns-in-Ok-clause-loan g c = c.in-Ok.ensures.does.stops.loan
 
 pub returns-in-Ok-clause-meets : goal.returns-in-Ok-clause-meets
-returns-in-Ok-clause-meets g c = expand_done (lent_by g.S.Sink.ink g.S.Sink.faults) _ _ _ _ _ c.in-Ok.ensures.does.follows
+returns-in-Ok-clause-meets g c = λ told. expand_done (lent_by g.S.Sink.ink g.S.Sink.faults) _ _ _ _ _ (c.in-Ok.ensures.does.follows told)
 
 pub returns-in-Ok-clause-whole : goal.returns-in-Ok-clause-whole
-returns-in-Ok-clause-whole g c = expand_lines (lent_by g.S.Sink.ink g.S.Sink.faults) _ _ _ _ _ c.in-Ok.ensures.does.follows
+returns-in-Ok-clause-whole g c = λ told. expand_lines (lent_by g.S.Sink.ink g.S.Sink.faults) _ _ _ _ _ (c.in-Ok.ensures.does.follows told)
 
 pub returns-clause-loan : goal.returns-clause-loan
-returns-clause-loan g c = expand_loan (lent_by g.S.Sink.ink g.S.Sink.faults) _ _ _ _ _ c.in-Err.ensures.does.follows
+returns-clause-loan g c = c.in-Err.ensures.does.stops.loan
 
 pub returns-clause-meets : goal.returns-clause-meets
-returns-clause-meets g c = rw c.from.ensures (expand_stops (lent_by g.S.Sink.ink g.S.Sink.faults) c.in-Err.stop _ _ _ _ c.in-Err.ensures.does.follows)
+returns-clause-meets g c = λ told. rw c.from.ensures (expand_stops (lent_by g.S.Sink.ink g.S.Sink.faults) c.in-Err.stop _ _ _ _ (c.in-Err.ensures.does.follows told))
 
 pub returns-clause-files_cause : goal.returns-clause-files_cause
 returns-clause-files_cause g c = rw c.from.ensures (stop_files c.in-Err.stop _ _ c.in-Err.ensures.does.stops.reads)
@@ -27,4 +27,4 @@ pub returns-clause-limit : goal.returns-clause-limit
 returns-clause-limit g c = let d = c.in-Err.ensures.does in rw c.from.ensures (stop_limit c.in-Err.stop _ _ d.limit d.advances.limit)
 
 pub returns-clause-whole : goal.returns-clause-whole
-returns-clause-whole g c = expand_lines (lent_by g.S.Sink.ink g.S.Sink.faults) _ _ _ _ _ c.in-Err.ensures.does.follows
+returns-clause-whole g c = λ told. expand_lines (lent_by g.S.Sink.ink g.S.Sink.faults) _ _ _ _ _ (c.in-Err.ensures.does.follows told)

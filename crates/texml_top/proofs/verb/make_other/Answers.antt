@@ -7,7 +7,7 @@ use Rattle.texml_top.proofs.verb.make_other.Goals as goal
 pub returns-in-Ok-clause-sets : goal.returns-in-Ok-clause-sets
 returns-in-Ok-clause-sets c =
     let scalar : IsScalar c.args.character = search rules in
-    other_state c.args.engine.now c.wrote.new.self c.set-set.new.self _ _ c.requires.sound scalar (rw c.scope.ensures.value at c.in-Ok.ensures.ok) c.wrote.ensures
+    λ shelf. other_state shelf c.args.engine.now c.wrote.new.self c.set-set.new.self _ _ c.requires.sound scalar (rw c.scope.ensures.value at c.in-Ok.ensures.ok) c.wrote.ensures
 
 pub returns-in-Ok-clause-keeps : goal.returns-in-Ok-clause-keeps
 returns-in-Ok-clause-keeps c =

@@ -1,5 +1,6 @@
 use Rattle.std.proofs.Common.{◌≡◌, None, take}
-use Rattle.texml_expand.specs.Held.{state_of, Kept}
+use Rattle.texml_base.specs.Outside.{Shelf}
+use Rattle.texml_expand.specs.Held.{state_of, Kept, SameFiles, Puts}
 use Rattle.texml_assign.specs.Advance.{Advances}
 use Rattle.texml_top.specs.Verb.{all_other}
 use Rattle.texml_top.proofs.verb.make_others.Given as goal
@@ -7,7 +8,9 @@ use Rattle.texml_top.proofs.verb.make_others.Given as goal
 abbrev pub invariant-loop-character : goal.invariant-loop-character
 invariant-loop-character l = record {
   running : l.engine.stop ≡ None;
-  others : state_of l.engine ≡ all_other (take l.character-index l.characters) (state_of l.fn.engine);
+  others : (shelf : Shelf) → state_of shelf l.engine ≡ all_other (take l.character-index l.characters) (state_of shelf l.fn.engine);
   kept : Kept l.fn.engine l.engine;
   advances : Advances l.fn.engine l.engine;
+  files : SameFiles l.fn.engine l.engine;
+  puts : Puts 0 l.fn.engine l.engine;
 }

@@ -6,5 +6,5 @@ use Rattle.texml_expand.proofs.engine.Engine.decided_on.Goals as goal
 
 pub returns-in_ok-put_seen-in-Decided-clause-decides : goal.returns-in_ok-put_seen-in-Decided-clause-decides
 returns-in_ok-put_seen-in-Decided-clause-decides c =
-    decides_back c.args.self.now.names c.args.seen.now c.saturating_sub-from.result c.in-Decided.back c.in-Decided.value (scanned_as c.args.scanned) (state_of c.args.self.now) (state_of c.put_seen.new.self)
-    (ap scanned_as c.in-Decided.is) (c.saturating_sub-from.ensures ∙ ap (λ k. length c.args.seen.now - k) c.from.ensures) c.in_ok-put_seen-in-Decided.ensures.puts
+    λ shelf. decides_back c.args.self.now.names c.args.seen.now c.saturating_sub-from.result c.in-Decided.back c.in-Decided.value (scanned_as c.args.scanned) (state_of shelf c.args.self.now) (state_of shelf c.put_seen.new.self)
+    (ap scanned_as c.in-Decided.is) (c.saturating_sub-from.ensures ∙ ap (λ k. length c.args.seen.now - k) c.from.ensures) (c.in_ok-put_seen-in-Decided.ensures.does shelf)

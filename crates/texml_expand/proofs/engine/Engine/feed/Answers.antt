@@ -1,47 +1,65 @@
 use Rattle.std.proofs.Common.{rules, arith, ap}
-use Rattle.texml_token.specs.Numbers.{token_at}
-use Rattle.texml_expand.specs.Held.{Held, state_of}
-use Rattle.texml_expand.proofs.Progress.{progress_then, progress_stopped}
-use Rattle.texml_expand.proofs.Fed.{inner_smaller, fed_by, feeding_stops, feeding_more, feeding_settled, feeding_refuses}
+use Rattle.texml_expand.specs.Held.{Held}
+use Rattle.texml_expand.proofs.Stopping.{passed_on}
+use Rattle.texml_expand.proofs.Fed.{feeding_none, fed_by, feeding_stops, stops_runs, feeding_more, feeding_settled, feeding_fed, feeding_runs, feeding_refuses, refuses_runs, out_runs}
 use Rattle.texml_expand.proofs.engine.Engine.feed.Goals as goal
+
+pub tokens-init : goal.tokens-init
+tokens-init g c = feeding_none (g.D.Feeder.judge c.args.feeder.now) c.args.self.now _ c.requires.running c.requires.sound c.requires.owns c.requires.short
 
 pub returns-in_err-token-clause-feeds : goal.returns-in_err-token-clause-feeds
 returns-in_err-token-clause-feeds g c =
-    let h = feeding_stops (g.D.Feeder.judge c.args.feeder.now) (g.D.Feeder.judge c.tokens.feeder) c.args.self.now c.tokens.self c.in_err-token.field-0.0 (state_of c.inner_token.new.self) c.inner_token.new.self
-    c.tokens.invariant c.in_err-token.ensures.takes in
+    let e = c.in_err-token.field-0.0 in
+    rw (passed_on c.from_residual.result e c.from_residual.ensures)
+    (feeding_stops (g.D.Feeder.judge c.args.feeder.now) (g.D.Feeder.judge c.tokens.feeder) c.args.self.now c.tokens.self c.inner_token.new.self _ _ _ e c.tokens.invariant c.in_err-token.ensures.gets _ _)
+
+pub returns-in_err-token-clause-runs : goal.returns-in_err-token-clause-runs
+returns-in_err-token-clause-runs g c =
+    let h = stops_runs (g.D.Feeder.judge c.args.feeder.now) (g.D.Feeder.judge c.tokens.feeder) c.args.self.now c.tokens.self c.inner_token.new.self _ _ _ c.in_err-token.field-0.0 c.tokens.invariant c.in_err-token.ensures.gets in
     search (rules, h)
 
-pub returns-in_err-token-clause-progress : goal.returns-in_err-token-clause-progress
-returns-in_err-token-clause-progress g c = progress_then _ _ _ c.tokens.invariant.progress c.in_err-token.ensures.progress
-
 pub tokens-smaller : goal.tokens-smaller
-tokens-smaller g c =
-    let s = inner_smaller (state_of c.tokens.self) (state_of c.inner_token.new.self) (token_at c.inner_token.new.self.names c.in_ok-token.token) c.in_ok-token.ensures.takes in
-    omega arith
+tokens-smaller g c = let s = c.in_ok-token.ensures.lower.room c.in_ok-token.ensures.begun in omega arith
 
 pub tokens-preserved : goal.tokens-preserved
 tokens-preserved g c =
-    feeding_more (g.D.Feeder.judge c.args.feeder.now) (g.D.Feeder.judge c.tokens.feeder) (g.D.Feeder.judge c.feed.new.self) c.args.self.now c.tokens.self c.inner_token.new.self c.in_ok-token.token c.in-Ok-TooShort.field-0
-    c.tokens.invariant c.in_ok-token.ensures.takes c.in_ok-token.ensures.keeps c.in_ok-token.ensures.within
-    (fed_by _ _ _ _ _ _ (ap (λ (h : Held). h.names) c.self.view_is) c.in-Ok-TooShort.ensures)
-    c.in_ok-token.ensures.kept c.in_ok-token.ensures.progress c.in-Ok-TooShort.field-0-is
+    feeding_more (g.D.Feeder.judge c.args.feeder.now) (g.D.Feeder.judge c.tokens.feeder) (g.D.Feeder.judge c.feed.new.self) c.args.self.now c.tokens.self c.inner_token.new.self _ _ _ c.in_ok-token.token c.in-Ok-TooShort.field-0
+    c.tokens.invariant c.in_ok-token.ensures.gets c.in_ok-token.ensures.lower c.in_ok-token.ensures.within
+    (fed_by _ _ _ _ _ _ (ap (λ (h : Held). h.names) c.self.view_is) c.in-Ok-TooShort.ensures) c.in-Ok-TooShort.field-0-is
 
 pub returns-in-Ok-Yields-clause-feeds : goal.returns-in-Ok-Yields-clause-feeds
 returns-in-Ok-Yields-clause-feeds g c =
-    let h = rw c.in-Ok-Yields.field-0-is at
-    (feeding_settled (g.D.Feeder.judge c.args.feeder.now) (g.D.Feeder.judge c.tokens.feeder) (g.D.Feeder.judge c.feed.new.self) c.args.self.now c.tokens.self c.inner_token.new.self c.in_ok-token.token c.in-Ok-Yields.field-0
-    c.tokens.invariant c.in_ok-token.ensures.takes c.in_ok-token.ensures.keeps c.in_ok-token.ensures.within
-    (fed_by _ _ _ _ _ _ (ap (λ (h : Held). h.names) c.self.view_is) c.in-Ok-Yields.ensures)) in
-    search (rules, h)
+    feeding_settled (g.D.Feeder.judge c.args.feeder.now) (g.D.Feeder.judge c.tokens.feeder) (g.D.Feeder.judge c.feed.new.self) c.args.self.now c.tokens.self c.inner_token.new.self _ _ _ c.in_ok-token.token c.in-Ok-Yields.field-0
+    c.tokens.invariant c.in_ok-token.ensures.gets c.in_ok-token.ensures.lower c.in_ok-token.ensures.within
+    (fed_by _ _ _ _ _ _ (ap (λ (h : Held). h.names) c.self.view_is) c.in-Ok-Yields.ensures) c.in-Ok-Yields.value c.in-Ok-Yields.field-0-is
+
+pub returns-in-Ok-Yields-clause-lower : goal.returns-in-Ok-Yields-clause-lower
+returns-in-Ok-Yields-clause-lower g c =
+    feeding_fed (g.D.Feeder.judge c.args.feeder.now) (g.D.Feeder.judge c.tokens.feeder) (g.D.Feeder.judge c.feed.new.self) c.args.self.now c.tokens.self c.inner_token.new.self _ _ _ c.in_ok-token.token c.in-Ok-Yields.field-0
+    c.tokens.invariant c.in_ok-token.ensures.gets c.in_ok-token.ensures.lower c.in_ok-token.ensures.within
+    (fed_by _ _ _ _ _ _ (ap (λ (h : Held). h.names) c.self.view_is) c.in-Ok-Yields.ensures) c.in-Ok-Yields.value c.in-Ok-Yields.field-0-is
+
+pub returns-in-Ok-Yields-clause-runs : goal.returns-in-Ok-Yields-clause-runs
+returns-in-Ok-Yields-clause-runs g c =
+    feeding_runs (g.D.Feeder.judge c.args.feeder.now) (g.D.Feeder.judge c.tokens.feeder) (g.D.Feeder.judge c.feed.new.self) c.args.self.now c.tokens.self c.inner_token.new.self _ _ _ c.in_ok-token.token c.in-Ok-Yields.field-0
+    c.tokens.invariant c.in_ok-token.ensures.gets c.in_ok-token.ensures.lower c.in_ok-token.ensures.within
+    (fed_by _ _ _ _ _ _ (ap (λ (h : Held). h.names) c.self.view_is) c.in-Ok-Yields.ensures) c.in-Ok-Yields.value
 
 pub returns-in-Ok-Refuses-clause-feeds : goal.returns-in-Ok-Refuses-clause-feeds
 returns-in-Ok-Refuses-clause-feeds g c =
-    let h = feeding_refuses (g.D.Feeder.judge c.args.feeder.now) (g.D.Feeder.judge c.tokens.feeder) (g.D.Feeder.judge c.feed.new.self) c.args.self.now c.tokens.self c.inner_token.new.self c.in_ok-token.token c.in-Ok-Refuses.field-0
-    c.tokens.invariant c.in_ok-token.ensures.takes c.in_ok-token.ensures.keeps c.in_ok-token.ensures.within
+    feeding_refuses (g.D.Feeder.judge c.args.feeder.now) (g.D.Feeder.judge c.tokens.feeder) (g.D.Feeder.judge c.feed.new.self) c.args.self.now c.tokens.self c.inner_token.new.self _ _ _ c.in_ok-token.token c.in-Ok-Refuses.field-0
+    c.tokens.invariant c.in_ok-token.ensures.gets c.in_ok-token.ensures.lower c.in_ok-token.ensures.within
     (fed_by _ _ _ _ _ _ (ap (λ (h : Held). h.names) c.self.view_is) c.in-Ok-Refuses.ensures)
-    c.in-Ok-Refuses.code c.bare_fault.result c.bare_fault.new.self c.in-Ok-Refuses.field-0-is c.bare_fault.ensures.is in
-    search (rules, h)
+    c.in-Ok-Refuses.code c.bare_fault.result _ _ c.in-Ok-Refuses.field-0-is c.bare_fault.ensures.is
 
-pub returns-in-Err-clause-progress : goal.returns-in-Err-clause-progress
-returns-in-Err-clause-progress g c =
-    progress_then _ _ _ (progress_then _ _ _ c.tokens.invariant.progress c.in_ok-token.ensures.progress) (progress_stopped _ _ _ c.no_memory.ensures.kept)
+pub returns-in-Ok-Refuses-clause-runs : goal.returns-in-Ok-Refuses-clause-runs
+returns-in-Ok-Refuses-clause-runs g c =
+    refuses_runs (g.D.Feeder.judge c.args.feeder.now) (g.D.Feeder.judge c.tokens.feeder) (g.D.Feeder.judge c.feed.new.self) c.args.self.now c.tokens.self c.inner_token.new.self _ _ _ c.in_ok-token.token c.in-Ok-Refuses.field-0
+    c.tokens.invariant c.in_ok-token.ensures.gets c.in_ok-token.ensures.lower c.in_ok-token.ensures.within
+    (fed_by _ _ _ _ _ _ (ap (λ (h : Held). h.names) c.self.view_is) c.in-Ok-Refuses.ensures)
+    c.in-Ok-Refuses.code c.bare_fault.result c.bare_fault.new.self c.bare_fault.ensures.is c.bare_fault.ensures.kept
+
+pub returns-in-Err-clause-runs : goal.returns-in-Err-clause-runs
+returns-in-Err-clause-runs g c =
+    out_runs (g.D.Feeder.judge c.args.feeder.now) (g.D.Feeder.judge c.tokens.feeder) c.args.self.now c.tokens.self c.inner_token.new.self c.no_memory.new.self _ _ _ _ c.no_memory.result c.tokens.invariant c.in_ok-token.ensures.gets
+    c.no_memory.ensures.is c.no_memory.ensures.kept

@@ -1,3 +1,4 @@
+use Rattle.texml_expand.specs.Contract.{outside}
 use Rattle.std.proofs.Common.{None, Some, rules}
 use Rattle.texml_token.specs.Numbers.{token_at}
 use Rattle.texml_expand.specs.Fronts.{looked_at}
@@ -16,16 +17,20 @@ returns-in_err-looked-clause-follows g c = λ running.
 pub returns-in-None-clause-follows : goal.returns-in-None-clause-follows
 returns-in-None-clause-follows g c = λ running.
     let T = g.T.Teller in
+    let F = g.F.Files in
     let new = c.next_looked.new.self in
     let tell = c.next_looked.new.tell in
+    let files = c.next_looked.new.files in
     let d = rw c.in-None.is at c.in_ok-looked.ensures.does in
-    (does_then (hears T.wanting T.heard) (hears_part T.wanting T.part) expanded as_counted lawful_expanded lawful_counted None _ _ _ _ _ _ _ _ _ _ d (does_now (hears T.wanting T.heard) (hears_part T.wanting T.part) None new (T.faults tell) tell d.keeps.sound d.stops.kept)).follows
+    (does_then (hears T.wanting T.heard) (hears_part T.wanting T.part) expanded as_counted lawful_expanded lawful_counted None _ _ _ _ _ _ _ _ _ _ d (does_now (hears T.wanting T.heard) (hears_part T.wanting T.part) None new (outside (F.shelf files) (F.faults files) (T.faults tell) (T.loan tell)) tell d.keeps.sound d.stops.kept d.holds.owns)).follows
 
 pub returns-in-Some-clause-follows : goal.returns-in-Some-clause-follows
 returns-in-Some-clause-follows g c = λ running.
     let T = g.T.Teller in
+    let F = g.F.Files in
     let new = c.next_looked.new.self in
     let tell = c.next_looked.new.tell in
+    let files = c.next_looked.new.files in
     let d = rw c.in-Some.is at c.in_ok-looked.ensures.does in
     (does_then (hears T.wanting T.heard) (hears_part T.wanting T.part) expanded as_counted lawful_expanded lawful_counted (Some (looked_at new.names c.in-Some.looked)) _ _ _ _ _ _ _ _ _ _ d
-    (does_now (hears T.wanting T.heard) (hears_part T.wanting T.part) (Some (token_at new.names c.in-Some.looked.counts)) new (T.faults tell) tell d.keeps.sound d.stops.kept)).follows
+    (does_now (hears T.wanting T.heard) (hears_part T.wanting T.part) (Some (token_at new.names c.in-Some.looked.counts)) new (outside (F.shelf files) (F.faults files) (T.faults tell) (T.loan tell)) tell d.keeps.sound d.stops.kept d.holds.owns)).follows

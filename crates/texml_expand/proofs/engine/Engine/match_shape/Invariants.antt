@@ -1,10 +1,12 @@
-use Rattle.texml_expand.specs.State.{room}
-use Rattle.texml_expand.specs.Held.{state_of}
+use Rattle.texml_expand.specs.Contract.{files_at}
+use Rattle.texml_expand.specs.Held.{held_room}
 use Rattle.texml_expand.proofs.Matching.{Matching}
 use Rattle.texml_expand.proofs.engine.Engine.match_shape.Given as goal
 
 abbrev pub invariant-tokens : goal.invariant-tokens
-invariant-tokens l = Matching l.shape l.initial.self l.matcher l.self
+invariant-tokens g l =
+    let F = g.F.Files in
+    Matching l.shape l.initial.self (files_at (F.shelf l.initial.files) (F.faults l.initial.files)) l.matcher l.self (files_at (F.shelf l.files) (F.faults l.files))
 
 abbrev pub decreases-tokens : goal.decreases-tokens
-decreases-tokens l = room (state_of l.self)
+decreases-tokens g l = held_room (g.F.Files.shelf l.files) l.self

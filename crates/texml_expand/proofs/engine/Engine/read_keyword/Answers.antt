@@ -4,7 +4,7 @@ use Rattle.texml_expand.specs.declared.machine.Value.TheVariants as worths
 use Rattle.texml_expand.specs.declared.machine.Machine.TheVariants as machines
 use Rattle.texml_expand.specs.Machine.{mapped, machine_rest}
 use Rattle.texml_expand.specs.Quantities.{keyword_text}
-use Rattle.texml_expand.proofs.Worth.{scan_stop, scan_value, scan_of, found_same}
+use Rattle.texml_expand.proofs.Worth.{scan_stop, scan_of, scan_gives, found_same}
 use Rattle.texml_expand.proofs.engine.Engine.read_keyword.Goals as goal
 
 pub returns-clause-follows : goal.returns-clause-follows
@@ -21,5 +21,5 @@ returns-in_err-found-clause-follows g c = λ running.
 pub unreachable-requires : goal.unreachable-requires
 unreachable-requires g c =
     let same : (xs : List Look) → machine_rest (machines.Keyword c.new.result) xs ≡ mapped worths.Found (keyword_text c.args.word.now xs) = λ xs. ap (mapped worths.Found) (c.new.ensures xs) in
-    let h = scan_value _ _ worths.Found (machine_rest (machines.Keyword c.new.result)) (keyword_text c.args.word.now) same _ _ _ _ _ _ _ c.in_ok-found.ensures.does in
+    let h = scan_gives worths.Found (machine_rest (machines.Keyword c.new.result)) (keyword_text c.args.word.now) same _ c.in_ok-found.ensures.gives in
     c.in_default.not-Found h.value h.is

@@ -13,7 +13,7 @@ returns-clause-values c =
     let sound = subst Sound (sym c.self.view_is) c.requires.sound in
     let within = subst (λ (h : Held). KeyWithin (length h.names) c.args.key) (sym c.self.view_is) c.requires.key in
     rw (← c.self.view_is)
-    (ap (λ q. Done q (state_of h) nothing) (sym (c.internal_in.ensures.is h.names ∙ ap (internal_in (key_at h.names c.args.key)) (value_says h sound c.args.key within c.in-Ok.value c.in-Ok.ensures.value))))
+    (λ shelf. ap (λ q. Done q (state_of shelf h) nothing) (sym (c.internal_in.ensures.is h.names ∙ ap (internal_in (key_at h.names c.args.key)) (value_says h sound c.args.key within c.in-Ok.value c.in-Ok.ensures.value))))
 
 pub returns-clause-within : goal.returns-clause-within
 returns-clause-within c =

@@ -1,0 +1,5 @@
+use Rattle.texml_expand.proofs.Fronts.{finished_kept}
+use Rattle.texml_expand.proofs.engine.Engine.end.Goals as goal
+
+pub returns-in-Puts-clause-keeps : goal.returns-in-Puts-clause-keeps
+returns-in-Puts-clause-keeps g c = finished_kept c.args.self.now c.finish.new.self c.in-Puts.list c.finish.result c.finish.ensures.is c.requires.sound (rw c.in-Puts.is at c.requires.gift)
