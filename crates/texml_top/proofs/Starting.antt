@@ -17,7 +17,7 @@ use Rattle.texml_top.specs.declared.status.Status.TheVariants as status
 
 -- an engine with the main file alone in its input
 module _ (old now : Shelf) (name found : List ℕ) (id limit : ℕ) (made : Held) (input : HeldInput) (empty : IsEmpty name limit made) (opened : IsOpened old now found id)
-  (is : input ≡ record made.input { sources = File (fresh_file id found) ∷ made.input.sources }) where
+    (is : input ≡ record made.input { sources = File (fresh_file id found) ∷ made.input.sources }) where
   -- what it reads
   alone : record made { input = input } ≡ record made { input = record { sources = File (fresh_file id found) ∷ []; place = no_place; fault = None } }
   alone = ap (λ i. record made { input = i }) (is ∙ ap (λ (i : HeldInput). record i { sources = File (fresh_file id found) ∷ i.sources }) empty.input)

@@ -6,6 +6,8 @@ use super::*;
 use std::alloc::{AllocError, Global};
 use std::test::Fail;
 use texml_base::{CalmFiles, CalmSink, MemoryFiles, MemorySink};
+use texml_token::Bytes;
+use texml_tree::ModelFault;
 
 const HEAD: &str =
     "<!DOCTYPE html>\n<html><head><meta charset=\"utf-8\"><title>untitled</title></head><body><main id=\"x0\">";
@@ -154,6 +156,53 @@ fn missing_file_is_a_fault_about_its_name(rt: HostRuntime) -> Result<(), Fail> {
             assert_eq!(rt; fault.about.as_slice(), b"-".as_slice());
         }
         _ => assert!(rt; false),
+    }
+    Ok(())
+}
+
+#[test]
+fn each_status_has_its_line(rt: HostRuntime) -> Result<(), Fail> {
+    let alloc = rt.alloc();
+    let misplaced = Status::Model(ModelFault {
+        code: 1,
+        child: Bytes::from_slice(alloc, b"item")?,
+        parent: Bytes::from_slice(alloc, b"document")?,
+    });
+    let unclosed = Status::Model(ModelFault {
+        code: 4,
+        child: Bytes::from_slice(alloc, b"list")?,
+        parent: Bytes::new(alloc),
+    });
+    let rows = [
+        (Status::Done, ""),
+        (misplaced, "model fault 1 NoPlace item document\n"),
+        (unclosed, "model fault 4 Unclosed list\n"),
+        (Status::Limit(100), "limit 100 reached\n"),
+        (Status::ReadFault, "read failed\n"),
+        (Status::WriteFault, "write failed\n"),
+        (Status::NoMemory, "out of memory\n"),
+    ];
+    for (status, line) in rows {
+        let mut notes = MemorySink::new(alloc, 100, 0)?;
+        let _same = noted(&mut notes, status);
+        assert_eq!(rt; notes.bytes(), line.as_bytes());
+    }
+    Ok(())
+}
+
+#[test]
+fn a_note_ends_where_its_sink_fails(rt: HostRuntime) -> Result<(), Fail> {
+    let alloc = rt.alloc();
+    let line = b"main.tex:2: fault 1 Undefined \\foo\n".as_slice();
+    for room in 0..line.len() + 1 {
+        let mut files = main_file(alloc, b"a\n\\foo\n", 4096, 0)?;
+        let mut notes = MemorySink::new(alloc, room, 0)?;
+        let words = words_of(alloc, &["convert", "main.tex"])?;
+        match run(alloc, &words, &mut files, &mut CalmSink::new(), &mut notes) {
+            Status::Tex(fault) => assert_eq!(rt; fault.code, 1),
+            _ => assert!(rt; false),
+        }
+        assert_eq!(rt; notes.bytes(), &line[..room]);
     }
     Ok(())
 }

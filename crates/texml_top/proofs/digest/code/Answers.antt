@@ -8,12 +8,16 @@ use Rattle.texml_top.proofs.Digesting.{code_ops}
 use Rattle.texml_top.proofs.digest.code.Goals as goal
 
 pub returns-in_err-text : goal.returns-in_err-text
-returns-in_err-text g c = record { does =
-    let h = does_stop _ _ verb (λ text n. give (code_ops text)) lawful_verb (λ text. lawful_plain (give (code_ops text)) (plain_give _)) _ _ _ _ _ _ _ c.requires.sound c.in_err-text.ensures.does in
-    search (rules, h) }
+returns-in_err-text g c = record {
+  does =
+      let h = does_stop _ _ verb (λ text n. give (code_ops text)) lawful_verb (λ text. lawful_plain (give (code_ops text)) (plain_give _)) _ _ _ _ _ _ _ c.requires.sound c.in_err-text.ensures.does in
+      search (rules, h);
+}
 
 pub returns : goal.returns
-returns g c = record { does =
-    let text = c.in_ok-text.text in let d = c.in_ok-text.ensures.does in let new = c.verb.new.engine in
-    does_then _ _ verb (λ text n. give (code_ops text)) lawful_verb (λ text. lawful_plain (give (code_ops text)) (plain_give _)) text (Ok (code_ops text)) _ new new _ _ _ _ _ _ d
-    (does_now _ _ (give (code_ops text)) (plain_give _) (code_ops text) new _ _ d.keeps.sound d.holds.owns d.stops.kept (λ shelf. refl)) }
+returns g c = record {
+  does =
+      let text = c.in_ok-text.text in let d = c.in_ok-text.ensures.does in let new = c.verb.new.engine in
+      does_then _ _ verb (λ text n. give (code_ops text)) lawful_verb (λ text. lawful_plain (give (code_ops text)) (plain_give _)) text (Ok (code_ops text)) _ new new _ _ _ _ _ _ d
+      (does_now _ _ (give (code_ops text)) (plain_give _) (code_ops text) new _ _ d.keeps.sound d.holds.owns d.stops.kept (λ shelf. refl));
+}

@@ -18,29 +18,37 @@ use Rattle.texml_top.proofs.digest.digest.Goals as goal
 pub rounds-init : goal.rounds-init
 rounds-init g c =
     let x = outside (g.F.Files.shelf c.args.files.now) (g.F.Files.faults c.args.files.now) (g.T.Teller.faults c.args.tell.now) (g.T.Teller.loan c.args.tell.now) in
-    record { going = subst (λ (l : Gathered). Goes (hears g.T.Teller.wanting g.T.Teller.heard) (hears_part g.T.Teller.wanting g.T.Teller.part) digestion digestion_laws nothing_yet c.args.engine.now x c.args.tell.now l c.args.engine.now x c.args.tell.now) (sym c.new-seen.ensures)
-    (goes_start (hears g.T.Teller.wanting g.T.Teller.heard) (hears_part g.T.Teller.wanting g.T.Teller.part) digestion digestion_laws nothing_yet c.args.engine.now x c.args.tell.now c.requires.running c.requires.sound c.requires.owns) }
+    record {
+      going = subst (λ (l : Gathered). Goes (hears g.T.Teller.wanting g.T.Teller.heard) (hears_part g.T.Teller.wanting g.T.Teller.part) digestion digestion_laws nothing_yet c.args.engine.now x c.args.tell.now l c.args.engine.now x c.args.tell.now) (sym c.new-seen.ensures)
+          (goes_start (hears g.T.Teller.wanting g.T.Teller.heard) (hears_part g.T.Teller.wanting g.T.Teller.part) digestion digestion_laws nothing_yet c.args.engine.now x c.args.tell.now c.requires.running c.requires.sound c.requires.owns);
+    }
 
 pub returns-in_err-token : goal.returns-in_err-token
-returns-in_err-token g c = record { does =
-    let i = c.tokens.invariant in let run = i.going.running in let f = c.in_err-token.ensures in let mid = c.fetch.new.self in
-    let s = does_call (hears g.T.Teller.wanting g.T.Teller.heard) (hears_part g.T.Teller.wanting g.T.Teller.part) fetch (option_map (token_at mid.names)) (Err c.in_err-token.field-0.0) c.tokens.engine mid _ _ _ _ (f.follows run) (f.stops run) (f.limit run) tt f.progress f.holds tt in
-    let h = goes_stops _ _ digestion digestion_laws _ nothing_yet c.tokens.seen _ _ _ _ _ _ _ _ _ i.going s in search (rules, h) }
+returns-in_err-token g c = record {
+  does =
+      let i = c.tokens.invariant in let run = i.going.running in let f = c.in_err-token.ensures in let mid = c.fetch.new.self in
+      let s = does_call (hears g.T.Teller.wanting g.T.Teller.heard) (hears_part g.T.Teller.wanting g.T.Teller.part) fetch (option_map (token_at mid.names)) (Err c.in_err-token.field-0.0) c.tokens.engine mid _ _ _ _ (f.follows run) (f.stops run) (f.limit run) tt f.progress f.holds tt in
+      let h = goes_stops _ _ digestion digestion_laws _ nothing_yet c.tokens.seen _ _ _ _ _ _ _ _ _ i.going s in search (rules, h);
+}
 
 pub returns-in-None : goal.returns-in-None
-returns-in-None g c = record { does =
-    let i = c.tokens.invariant in let run = i.going.running in let f = c.in_ok-token.ensures in let mid = c.fetch.new.self in let seen = c.tokens.seen in
-    let s = rw c.in-None.is at (does_call (hears g.T.Teller.wanting g.T.Teller.heard) (hears_part g.T.Teller.wanting g.T.Teller.part) fetch (option_map (token_at mid.names)) _ c.tokens.engine mid _ _ _ _ (f.follows run) (f.stops run) tt (f.keeps run) f.progress f.holds (no_more (f.lower run))) in
-    let e = c.end_of.ensures in let r = c.end_of.result in let new = c.end_of.new.engine in
-    goes_ends _ _ digestion digestion_laws r nothing_yet seen _ _ mid new _ _ _ _ _ _ _ _ i.going s (does_local _ _ (give (all_of seen)) (plain_give (all_of seen)) r mid new _ _ s.holds.owns e.gives e.kept e.keeps e.advances e.files e.puts) }
+returns-in-None g c = record {
+  does =
+      let i = c.tokens.invariant in let run = i.going.running in let f = c.in_ok-token.ensures in let mid = c.fetch.new.self in let seen = c.tokens.seen in
+      let s = rw c.in-None.is at (does_call (hears g.T.Teller.wanting g.T.Teller.heard) (hears_part g.T.Teller.wanting g.T.Teller.part) fetch (option_map (token_at mid.names)) _ c.tokens.engine mid _ _ _ _ (f.follows run) (f.stops run) tt (f.keeps run) f.progress f.holds (no_more (f.lower run))) in
+      let e = c.end_of.ensures in let r = c.end_of.result in let new = c.end_of.new.engine in
+      goes_ends _ _ digestion digestion_laws r nothing_yet seen _ _ mid new _ _ _ _ _ _ _ _ i.going s (does_local _ _ (give (all_of seen)) (plain_give (all_of seen)) r mid new _ _ s.holds.owns e.gives e.kept e.keeps e.advances e.files e.puts);
+}
 
 pub returns-in_err-digest_turn : goal.returns-in_err-digest_turn
-returns-in_err-digest_turn g c = record { does =
-    let i = c.tokens.invariant in let run = i.going.running in let f = c.in_ok-token.ensures in let mid = c.fetch.new.self in let seen = c.tokens.seen in
-    let s = rw c.in-Some.is at (does_call (hears g.T.Teller.wanting g.T.Teller.heard) (hears_part g.T.Teller.wanting g.T.Teller.part) fetch (option_map (token_at mid.names)) _ c.tokens.engine mid _ _ _ _ (f.follows run) (f.stops run) tt (f.keeps run) f.progress f.holds (no_more (f.lower run))) in
-    let t = token_at mid.names c.in-Some.token in
-    let h = goes_turn_stops _ _ digestion digestion_laws t _ nothing_yet seen _ _ mid _ _ _ _ _ _ _ _ _ i.going s c.in_err-digest_turn.ensures.does in
-    search (rules, h) }
+returns-in_err-digest_turn g c = record {
+  does =
+      let i = c.tokens.invariant in let run = i.going.running in let f = c.in_ok-token.ensures in let mid = c.fetch.new.self in let seen = c.tokens.seen in
+      let s = rw c.in-Some.is at (does_call (hears g.T.Teller.wanting g.T.Teller.heard) (hears_part g.T.Teller.wanting g.T.Teller.part) fetch (option_map (token_at mid.names)) _ c.tokens.engine mid _ _ _ _ (f.follows run) (f.stops run) tt (f.keeps run) f.progress f.holds (no_more (f.lower run))) in
+      let t = token_at mid.names c.in-Some.token in
+      let h = goes_turn_stops _ _ digestion digestion_laws t _ nothing_yet seen _ _ mid _ _ _ _ _ _ _ _ _ i.going s c.in_err-digest_turn.ensures.does in
+      search (rules, h);
+}
 
 pub rounds-smaller : goal.rounds-smaller
 rounds-smaller g c =

@@ -10,11 +10,15 @@ use Rattle.texml_top.proofs.Digesting.{lawful_left}
 use Rattle.texml_top.proofs.digest.digest_left.Goals as goal
 
 pub returns-in-Err : goal.returns-in-Err
-returns-in-Err g c = record { does =
-    let h = c.args.engine.now in let t = token_at h.names c.args.token in
-    does_out _ _ (digest_left t NotMine) (lawful_left t NotMine) c.no_memory.result h c.no_memory.new.self _ _ c.requires.sound c.requires.owns c.no_memory.ensures.is c.no_memory.ensures.kept }
+returns-in-Err g c = record {
+  does =
+      let h = c.args.engine.now in let t = token_at h.names c.args.token in
+      does_out _ _ (digest_left t NotMine) (lawful_left t NotMine) c.no_memory.result h c.no_memory.new.self _ _ c.requires.sound c.requires.owns c.no_memory.ensures.is c.no_memory.ensures.kept;
+}
 
 pub returns : goal.returns
-returns g c = record { does =
-    let h = c.args.engine.now in let t = token_at h.names c.args.token in let m = meaning_at h.names c.in-Ok.meaning in
-    does_as _ _ (digest_left t NotMine) (digest_meaning m) (ok_at ops_of c.digest_meaning.result) h c.digest_meaning.new.engine _ _ _ _ (λ n shelf. ap (λ x. digest_meaning x n (state_of shelf h)) (sym c.in-Ok.ensures.means)) c.digest_meaning.ensures.does }
+returns g c = record {
+  does =
+      let h = c.args.engine.now in let t = token_at h.names c.args.token in let m = meaning_at h.names c.in-Ok.meaning in
+      does_as _ _ (digest_left t NotMine) (digest_meaning m) (ok_at ops_of c.digest_meaning.result) h c.digest_meaning.new.engine _ _ _ _ (λ n shelf. ap (λ x. digest_meaning x n (state_of shelf h)) (sym c.in-Ok.ensures.means)) c.digest_meaning.ensures.does;
+}

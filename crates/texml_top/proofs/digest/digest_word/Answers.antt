@@ -14,5 +14,7 @@ pub returns-in-Space : goal.returns-in-Space
 returns-in-Space g c = record { does = rw c.in-Space.is (does_now _ _ (give (Space ∷ [])) (plain_give _) (Space ∷ []) c.args.engine.now _ _ c.requires.sound c.requires.owns c.requires.running (λ shelf. refl)) }
 
 pub returns-in-Misplaced : goal.returns-in-Misplaced
-returns-in-Misplaced g c = record { does =
-    rw c.in-Misplaced.is (does_fault _ _ (fail MISPLACED []) (plain_fail _ MISPLACED []) MISPLACED c.bare_fault.result c.args.engine.now c.bare_fault.new.self _ _ c.requires.owns (λ shelf. refl) c.bare_fault.ensures.is c.bare_fault.ensures.kept) }
+returns-in-Misplaced g c = record {
+  does =
+      rw c.in-Misplaced.is (does_fault _ _ (fail MISPLACED []) (plain_fail _ MISPLACED []) MISPLACED c.bare_fault.result c.args.engine.now c.bare_fault.new.self _ _ c.requires.owns (λ shelf. refl) c.bare_fault.ensures.is c.bare_fault.ensures.kept);
+}

@@ -7,7 +7,9 @@ use Rattle.texml_top.proofs.Verbs.{plain_next_char, plain_behind_star}
 use Rattle.texml_top.proofs.verb.delimiter.Goals as goal
 
 pub returns : goal.returns
-returns g c = record { does =
-    let first = c.in_ok-first.first in let mid = c.next_char.new.engine in
-    does_then _ _ (λ n. next_char) (λ c n. behind_star c) (lawful_plain next_char plain_next_char) (λ c. lawful_plain (behind_star c) (plain_behind_star c)) first _ _ mid _ _ _ _ _ _ _ c.in_ok-first.ensures.does
-    (does_as _ _ (λ n. behind_star first) (λ n. next_char) c.next_char-2.result mid c.next_char-2.new.engine _ _ _ _ (λ n shelf. ap (λ x. behind_star x (state_of shelf mid)) c.if-first-ne-STAR.false) c.next_char-2.ensures.does) }
+returns g c = record {
+  does =
+      let first = c.in_ok-first.first in let mid = c.next_char.new.engine in
+      does_then _ _ (λ n. next_char) (λ c n. behind_star c) (lawful_plain next_char plain_next_char) (λ c. lawful_plain (behind_star c) (plain_behind_star c)) first _ _ mid _ _ _ _ _ _ _ c.in_ok-first.ensures.does
+      (does_as _ _ (λ n. behind_star first) (λ n. next_char) c.next_char-2.result mid c.next_char-2.new.engine _ _ _ _ (λ n shelf. ap (λ x. behind_star x (state_of shelf mid)) c.if-first-ne-STAR.false) c.next_char-2.ensures.does);
+}

@@ -6,10 +6,14 @@ use Rattle.texml_top.proofs.Verbs.{plain_delimiter, lawful_text_to}
 use Rattle.texml_top.proofs.verb.verb_text.Goals as goal
 
 pub returns-in_err-end : goal.returns-in_err-end
-returns-in_err-end g c = record { does =
-    let h = does_stop _ _ (λ n. delimiter) text_to (lawful_plain delimiter plain_delimiter) lawful_text_to _ _ _ _ _ _ _ c.requires.sound c.in_err-end.ensures.does in
-    search (rules, h) }
+returns-in_err-end g c = record {
+  does =
+      let h = does_stop _ _ (λ n. delimiter) text_to (lawful_plain delimiter plain_delimiter) lawful_text_to _ _ _ _ _ _ _ c.requires.sound c.in_err-end.ensures.does in
+      search (rules, h);
+}
 
 pub returns : goal.returns
-returns g c = record { does =
-    does_then _ _ (λ n. delimiter) text_to (lawful_plain delimiter plain_delimiter) lawful_text_to c.in_ok-end.end _ _ _ _ _ _ _ _ _ _ c.in_ok-end.ensures.does c.text_to.ensures.does }
+returns g c = record {
+  does =
+      does_then _ _ (λ n. delimiter) text_to (lawful_plain delimiter plain_delimiter) lawful_text_to c.in_ok-end.end _ _ _ _ _ _ _ _ _ _ c.in_ok-end.ensures.does c.text_to.ensures.does;
+}
