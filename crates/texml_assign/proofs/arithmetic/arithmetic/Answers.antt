@@ -12,7 +12,7 @@ returns-in_err-target g c =
 pub returns : goal.returns
 returns g c = record {
   does =
-    let old = c.args.engine.now in let mid = c.next_counted.new.engine in let new = c.count_target.new.engine in
-    does_then _ _ next_counted (count_target c.args.global c.args.what) lawful_next_counted (lawful_count_target c.args.global c.args.what) c.in_ok-target.target c.count_target.result _ mid new _ _ _ _ _ _ c.in_ok-target.ensures.does
-    c.count_target.ensures.does;
+      let old = c.args.engine.now in let mid = c.next_counted.new.engine in let new = c.count_target.new.engine in
+      does_then _ _ next_counted (count_target c.args.global c.args.what) lawful_next_counted (lawful_count_target c.args.global c.args.what) c.in_ok-target.target c.count_target.result _ mid new _ _ _ _ _ _ c.in_ok-target.ensures.does
+      c.count_target.ensures.does;
 }

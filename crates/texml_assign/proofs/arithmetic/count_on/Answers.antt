@@ -16,7 +16,7 @@ returns-in_err-new g c =
 pub returns : goal.returns
 returns g c = record {
   does =
-    let old = c.args.engine.now in let mid = c.computed.new.engine in let new = c.set.new.engine in
-    does_then _ _ (computed c.args.what c.args.old) (λ k n. change (set c.args.global (key_at old.names c.args.key) (value_from k))) (lawful_computed c.args.what c.args.old) (λ k. lawful_set c.args.global (key_at old.names c.args.key) (value_from k)) c.in_ok-new.new c.set.result _ mid new _ _ _ _ _ _ c.in_ok-new.ensures.does
-    (does_local _ _ (change (set c.args.global (key_at old.names c.args.key) (value_from c.in_ok-new.new))) (plain_set c.args.global (key_at old.names c.args.key) (value_from c.in_ok-new.new)) c.set.result mid new _ _ c.in_ok-new.ensures.does.holds.owns (rw ((same_key c.args.key (counted_variable c.args.key c.requires.key) old.names mid.names), ← count_value mid.names c.in_ok-new.new, ← c.value_from.ensures) c.set.ensures.sets) c.set.ensures.kept c.set.ensures.keeps c.set.ensures.advances c.set.ensures.files c.set.ensures.puts);
+      let old = c.args.engine.now in let mid = c.computed.new.engine in let new = c.set.new.engine in
+      does_then _ _ (computed c.args.what c.args.old) (λ k n. change (set c.args.global (key_at old.names c.args.key) (value_from k))) (lawful_computed c.args.what c.args.old) (λ k. lawful_set c.args.global (key_at old.names c.args.key) (value_from k)) c.in_ok-new.new c.set.result _ mid new _ _ _ _ _ _ c.in_ok-new.ensures.does
+      (does_local _ _ (change (set c.args.global (key_at old.names c.args.key) (value_from c.in_ok-new.new))) (plain_set c.args.global (key_at old.names c.args.key) (value_from c.in_ok-new.new)) c.set.result mid new _ _ c.in_ok-new.ensures.does.holds.owns (rw ((same_key c.args.key (counted_variable c.args.key c.requires.key) old.names mid.names), ← count_value mid.names c.in_ok-new.new, ← c.value_from.ensures) c.set.ensures.sets) c.set.ensures.kept c.set.ensures.keeps c.set.ensures.advances c.set.ensures.files c.set.ensures.puts);
 }

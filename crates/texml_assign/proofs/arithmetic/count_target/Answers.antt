@@ -14,7 +14,7 @@ returns-in_err-key g c =
 pub returns : goal.returns
 returns g c = record {
   does =
-    let old = c.args.engine.now in let mid = c.target_key.new.engine in let new = c.count_by.new.engine in
-    does_then _ _ (target_key c.args.target) (count_by c.args.global c.args.what) (lawful_target c.args.target) (lawful_count_by c.args.global c.args.what) (key_at mid.names c.in_ok-key.key) c.count_by.result _ mid new _ _ _ _ _ _ c.in_ok-key.ensures.does
-    c.count_by.ensures.does;
+      let old = c.args.engine.now in let mid = c.target_key.new.engine in let new = c.count_by.new.engine in
+      does_then _ _ (target_key c.args.target) (count_by c.args.global c.args.what) (lawful_target c.args.target) (lawful_count_by c.args.global c.args.what) (key_at mid.names c.in_ok-key.key) c.count_by.result _ mid new _ _ _ _ _ _ c.in_ok-key.ensures.does
+      c.count_by.ensures.does;
 }

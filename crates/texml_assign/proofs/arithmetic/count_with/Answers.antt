@@ -18,8 +18,8 @@ returns-in_err-old g c =
 pub returns : goal.returns
 returns g c = record {
   does =
-    let old = c.args.engine.now in let mid = c.count_now.new.engine in let new = c.count_on.new.engine in let k = c.in_ok-old.ensures in let key = key_at old.names c.args.key in let v = c.in_ok-old.old in
-    does_then _ _ (λ n. count_now key) (count_on c.args.global c.args.what key) (lawful_plain (count_now key) (plain_count_now key)) (lawful_count_on c.args.global c.args.what key) v c.count_on.result old mid new _ _ _ _ _ _
-    (does_judge _ _ (count_now key) (plain_count_now key) (Ok v) old mid _ _ c.requires.owns k.is k.kept k.keeps k.same)
-    (rw (same_key c.args.key (counted_variable c.args.key c.requires.key) old.names mid.names) c.count_on.ensures.does);
+      let old = c.args.engine.now in let mid = c.count_now.new.engine in let new = c.count_on.new.engine in let k = c.in_ok-old.ensures in let key = key_at old.names c.args.key in let v = c.in_ok-old.old in
+      does_then _ _ (λ n. count_now key) (count_on c.args.global c.args.what key) (lawful_plain (count_now key) (plain_count_now key)) (lawful_count_on c.args.global c.args.what key) v c.count_on.result old mid new _ _ _ _ _ _
+      (does_judge _ _ (count_now key) (plain_count_now key) (Ok v) old mid _ _ c.requires.owns k.is k.kept k.keeps k.same)
+      (rw (same_key c.args.key (counted_variable c.args.key c.requires.key) old.names mid.names) c.count_on.ensures.does);
 }

@@ -16,9 +16,9 @@ returns-in_err-value g c =
 pub returns : goal.returns
 returns g c = record {
   does =
-    let old = c.args.engine.now in let mid = c.value_for.new.engine in let new = c.set.new.engine in
-    does_then _ _ (value_for (key_at old.names c.args.key)) (λ v n. change (set c.args.global (key_at old.names c.args.key) v)) (lawful_value (key_at old.names c.args.key)) (lawful_set c.args.global (key_at old.names c.args.key)) (value_at mid.names c.in_ok-value.value) c.set.result _ mid new _ _ _ _ _ _ c.in_ok-value.ensures.does
-    (does_local _ _ (change (set c.args.global (key_at old.names c.args.key) (value_at mid.names c.in_ok-value.value))) (plain_set c.args.global (key_at old.names c.args.key) (value_at mid.names c.in_ok-value.value)) c.set.result mid new _ _ c.in_ok-value.ensures.does.holds.owns (rw (same_key c.args.key c.requires.key old.names mid.names) c.set.ensures.sets) c.set.ensures.kept c.set.ensures.keeps c.set.ensures.advances c.set.ensures.files c.set.ensures.puts);
+      let old = c.args.engine.now in let mid = c.value_for.new.engine in let new = c.set.new.engine in
+      does_then _ _ (value_for (key_at old.names c.args.key)) (λ v n. change (set c.args.global (key_at old.names c.args.key) v)) (lawful_value (key_at old.names c.args.key)) (lawful_set c.args.global (key_at old.names c.args.key)) (value_at mid.names c.in_ok-value.value) c.set.result _ mid new _ _ _ _ _ _ c.in_ok-value.ensures.does
+      (does_local _ _ (change (set c.args.global (key_at old.names c.args.key) (value_at mid.names c.in_ok-value.value))) (plain_set c.args.global (key_at old.names c.args.key) (value_at mid.names c.in_ok-value.value)) c.set.result mid new _ _ c.in_ok-value.ensures.does.holds.owns (rw (same_key c.args.key c.requires.key old.names mid.names) c.set.ensures.sets) c.set.ensures.kept c.set.ensures.keeps c.set.ensures.advances c.set.ensures.files c.set.ensures.puts);
 }
 
 pub set-requires-clause-key : goal.set-requires-clause-key

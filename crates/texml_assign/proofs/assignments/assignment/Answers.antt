@@ -14,7 +14,7 @@ returns-in_err-key g c =
 pub returns : goal.returns
 returns g c = record {
   does =
-    let old = c.args.engine.now in let mid = c.target_key.new.engine in let new = c.assign_to.new.engine in
-    does_then _ _ (target_key c.args.target) (assign_to c.args.global) (lawful_target c.args.target) (lawful_assign_to c.args.global) (key_at mid.names c.in_ok-key.key) c.assign_to.result _ mid new _ _ _ _ _ _ c.in_ok-key.ensures.does
-    c.assign_to.ensures.does;
+      let old = c.args.engine.now in let mid = c.target_key.new.engine in let new = c.assign_to.new.engine in
+      does_then _ _ (target_key c.args.target) (assign_to c.args.global) (lawful_target c.args.target) (lawful_assign_to c.args.global) (key_at mid.names c.in_ok-key.key) c.assign_to.result _ mid new _ _ _ _ _ _ c.in_ok-key.ensures.does
+      c.assign_to.ensures.does;
 }

@@ -30,12 +30,12 @@ returns-in_err-meaning g c =
 pub returns : goal.returns
 returns g c = record {
   does =
-    let M : ByDepth Meaning = defined c.args.expanding c.args.long in let L : Lawful M = lawful_defined c.args.expanding c.args.long in
-    let f = c.in_ok-key.ensures.does in let e1 = c.next_key.new.engine in let k = key_at e1.names c.in_ok-key.key in
-    let d = c.in_ok-meaning.ensures.does in let e2 = c.defined.new.engine in let m = meaning_at e2.names c.in_ok-meaning.meaning in let new = c.assign.new.engine in
-    let stays = key_stays e1.names e2.names d.keeps.grows c.in_ok-key.key c.in_ok-key.ensures.within in
-    let P : Key → Type 0 = λ k. Local (change (assign c.args.global k m)) c.assign.result e2 new in
-    does_then _ _ (λ n. next_key) (key_taken c.args.global M) (lawful_plain next_key plain_next_key) (lawful_key_taken c.args.global M L) k _ _ _ _ _ _ _ _ _ _ f
-    (does_then _ _ M (λ m n. change (assign c.args.global k m)) L (λ m. lawful_plain (change (assign c.args.global k m)) (plain_assign c.args.global k m)) m _ _ _ _ _ _ _ _ _ _ d
-    (does_local _ _ (change (assign c.args.global k m)) (plain_assign c.args.global k m) c.assign.result e2 new _ _ d.holds.owns (subst P stays c.assign.ensures.sets) c.assign.ensures.kept c.assign.ensures.keeps c.assign.ensures.advances c.assign.ensures.files c.assign.ensures.puts));
+      let M : ByDepth Meaning = defined c.args.expanding c.args.long in let L : Lawful M = lawful_defined c.args.expanding c.args.long in
+      let f = c.in_ok-key.ensures.does in let e1 = c.next_key.new.engine in let k = key_at e1.names c.in_ok-key.key in
+      let d = c.in_ok-meaning.ensures.does in let e2 = c.defined.new.engine in let m = meaning_at e2.names c.in_ok-meaning.meaning in let new = c.assign.new.engine in
+      let stays = key_stays e1.names e2.names d.keeps.grows c.in_ok-key.key c.in_ok-key.ensures.within in
+      let P : Key → Type 0 = λ k. Local (change (assign c.args.global k m)) c.assign.result e2 new in
+      does_then _ _ (λ n. next_key) (key_taken c.args.global M) (lawful_plain next_key plain_next_key) (lawful_key_taken c.args.global M L) k _ _ _ _ _ _ _ _ _ _ f
+      (does_then _ _ M (λ m n. change (assign c.args.global k m)) L (λ m. lawful_plain (change (assign c.args.global k m)) (plain_assign c.args.global k m)) m _ _ _ _ _ _ _ _ _ _ d
+      (does_local _ _ (change (assign c.args.global k m)) (plain_assign c.args.global k m) c.assign.result e2 new _ _ d.holds.owns (subst P stays c.assign.ensures.sets) c.assign.ensures.kept c.assign.ensures.keeps c.assign.ensures.advances c.assign.ensures.files c.assign.ensures.puts));
 }

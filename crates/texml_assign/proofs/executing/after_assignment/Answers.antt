@@ -17,8 +17,8 @@ returns-in_err-token g c =
 pub returns : goal.returns
 returns g c = record {
   does =
-    let mid = c.next_token.new.engine in let t = token_at mid.names c.in_ok-token.token in let f = c.in_ok-token.ensures in let new = c.keep.new.self in
-    does_put _ _ 1 (λ n. next_token) (λ t. change (keep_token t)) (lawful_plain next_token plain_next) (λ t s. tt) (λ t s. tt) t (Ok tt) _ mid new _ _ _ _ f.does f.takes
-    (λ shelf. ap (λ (m : Held). Done tt (state_of shelf m) nothing) (sym c.keep.ensures)) (ap (λ (m : Held). m.stop) c.keep.ensures ∙ f.does.stops.kept)
-    (kept_set mid new c.in_ok-token.token f.does.keeps.sound f.within c.keep.ensures) (advances_set mid new (Some c.in_ok-token.token) c.keep.ensures) (files_set mid new (Some c.in_ok-token.token) c.keep.ensures) (puts_set mid new c.in_ok-token.token c.keep.ensures);
+      let mid = c.next_token.new.engine in let t = token_at mid.names c.in_ok-token.token in let f = c.in_ok-token.ensures in let new = c.keep.new.self in
+      does_put _ _ 1 (λ n. next_token) (λ t. change (keep_token t)) (lawful_plain next_token plain_next) (λ t s. tt) (λ t s. tt) t (Ok tt) _ mid new _ _ _ _ f.does f.takes
+      (λ shelf. ap (λ (m : Held). Done tt (state_of shelf m) nothing) (sym c.keep.ensures)) (ap (λ (m : Held). m.stop) c.keep.ensures ∙ f.does.stops.kept)
+      (kept_set mid new c.in_ok-token.token f.does.keeps.sound f.within c.keep.ensures) (advances_set mid new (Some c.in_ok-token.token) c.keep.ensures) (files_set mid new (Some c.in_ok-token.token) c.keep.ensures) (puts_set mid new c.in_ok-token.token c.keep.ensures);
 }

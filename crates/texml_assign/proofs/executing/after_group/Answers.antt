@@ -15,7 +15,7 @@ returns-in_err-token g c =
 pub returns : goal.returns
 returns g c = record {
   does =
-    let mid = c.next_token.new.engine in let t = token_at mid.names c.in_ok-token.token in let r = c.read_after.ensures in
-    does_put _ _ 1 (λ n. next_token) (λ t. change (read_after t)) (lawful_plain next_token plain_next) (λ t s. tt) (λ t s. tt) t c.read_after.result _ mid c.read_after.new.engine _ _ _ _ c.in_ok-token.ensures.does c.in_ok-token.ensures.takes
-    r.keeps_token r.kept r.keeps r.advances r.files r.puts;
+      let mid = c.next_token.new.engine in let t = token_at mid.names c.in_ok-token.token in let r = c.read_after.ensures in
+      does_put _ _ 1 (λ n. next_token) (λ t. change (read_after t)) (lawful_plain next_token plain_next) (λ t s. tt) (λ t s. tt) t c.read_after.result _ mid c.read_after.new.engine _ _ _ _ c.in_ok-token.ensures.does c.in_ok-token.ensures.takes
+      r.keeps_token r.kept r.keeps r.advances r.files r.puts;
 }

@@ -14,7 +14,7 @@ returns-in_err-found g c =
 pub returns : goal.returns
 returns g c = record {
   does =
-    let p = with_prefix no_prefixes c.args.prefix in
-    let d = rw c.with_prefix-first.ensures at c.in_ok-found.ensures.does in
-    does_then _ _ (prefixed p) (λ f. perform f.0 f.1) (lawful_prefixed p) (λ f. lawful_perform f.0 f.1) c.in_ok-found.found _ _ _ _ _ _ _ _ _ _ d c.perform.ensures.does;
+      let p = with_prefix no_prefixes c.args.prefix in
+      let d = rw c.with_prefix-first.ensures at c.in_ok-found.ensures.does in
+      does_then _ _ (prefixed p) (λ f. perform f.0 f.1) (lawful_prefixed p) (λ f. lawful_perform f.0 f.1) c.in_ok-found.found _ _ _ _ _ _ _ _ _ _ d c.perform.ensures.does;
 }

@@ -21,41 +21,41 @@ returns-in_err-token g c =
 pub returns-in-None : goal.returns-in-None
 returns-in-None g c = record {
   does =
-    let i = c.tokens.invariant in let run = i.going.running in let f = c.in_ok-token.ensures in let mid = c.fetch.new.self in
-    let s = rw c.in-None.is at (does_call (hears g.T.Teller.wanting g.T.Teller.heard) (hears_part g.T.Teller.wanting g.T.Teller.part) fetch (option_map (token_at mid.names)) _ c.tokens.engine mid _ _ _ _ (f.follows run) (f.stops run) tt (f.keeps run) f.progress f.holds (no_more (f.lower run))) in
-    goes_ends _ _ prefix_loop prefix_laws _ c.args.first c.tokens.prefixes _ _ mid c.bare_fault.new.self _ _ _ _ _ _ _ _ i.going s
-    (does_fault _ _ (prefix_loop.end c.tokens.prefixes) (prefix_laws.end c.tokens.prefixes) FILE_ENDED c.bare_fault.result mid c.bare_fault.new.self _ _ s.holds.owns (λ shelf. refl) c.bare_fault.ensures.is c.bare_fault.ensures.kept);
+      let i = c.tokens.invariant in let run = i.going.running in let f = c.in_ok-token.ensures in let mid = c.fetch.new.self in
+      let s = rw c.in-None.is at (does_call (hears g.T.Teller.wanting g.T.Teller.heard) (hears_part g.T.Teller.wanting g.T.Teller.part) fetch (option_map (token_at mid.names)) _ c.tokens.engine mid _ _ _ _ (f.follows run) (f.stops run) tt (f.keeps run) f.progress f.holds (no_more (f.lower run))) in
+      goes_ends _ _ prefix_loop prefix_laws _ c.args.first c.tokens.prefixes _ _ mid c.bare_fault.new.self _ _ _ _ _ _ _ _ i.going s
+      (does_fault _ _ (prefix_loop.end c.tokens.prefixes) (prefix_laws.end c.tokens.prefixes) FILE_ENDED c.bare_fault.result mid c.bare_fault.new.self _ _ s.holds.owns (λ shelf. refl) c.bare_fault.ensures.is c.bare_fault.ensures.kept);
 }
 
 pub returns-in-Ok-Command : goal.returns-in-Ok-Command
 returns-in-Ok-Command g c = record {
   does =
-    let i = c.tokens.invariant in let run = i.going.running in let f = c.in_ok-token.ensures in let mid = c.fetch.new.self in
-    let s = rw c.in-Some.is at (does_call (hears g.T.Teller.wanting g.T.Teller.heard) (hears_part g.T.Teller.wanting g.T.Teller.part) fetch (option_map (token_at mid.names)) _ c.tokens.engine mid _ _ _ _ (f.follows run) (f.stops run) tt (f.keeps run) f.progress f.holds (no_more (f.lower run))) in
-    let t = token_at mid.names c.in-Some.token in let p = c.tokens.prefixes in
-    let v : Prefixes × CommandWord = (p, c.in-Ok-Command.command) in
-    goes_over _ _ prefix_loop prefix_laws t v c.args.first p _ _ mid mid _ _ _ _ _ _ _ _ i.going s
-    (does_now _ _ (λ s. prefix_turn p t 0 s) (plain_prefix_turn p t) (Over v) mid _ _ s.keeps.sound s.holds.owns s.stops.kept (rw c.in-Ok-Command.field-0-is at c.in-Ok-Command.ensures));
+      let i = c.tokens.invariant in let run = i.going.running in let f = c.in_ok-token.ensures in let mid = c.fetch.new.self in
+      let s = rw c.in-Some.is at (does_call (hears g.T.Teller.wanting g.T.Teller.heard) (hears_part g.T.Teller.wanting g.T.Teller.part) fetch (option_map (token_at mid.names)) _ c.tokens.engine mid _ _ _ _ (f.follows run) (f.stops run) tt (f.keeps run) f.progress f.holds (no_more (f.lower run))) in
+      let t = token_at mid.names c.in-Some.token in let p = c.tokens.prefixes in
+      let v : Prefixes × CommandWord = (p, c.in-Ok-Command.command) in
+      goes_over _ _ prefix_loop prefix_laws t v c.args.first p _ _ mid mid _ _ _ _ _ _ _ _ i.going s
+      (does_now _ _ (λ s. prefix_turn p t 0 s) (plain_prefix_turn p t) (Over v) mid _ _ s.keeps.sound s.holds.owns s.stops.kept (rw c.in-Ok-Command.field-0-is at c.in-Ok-Command.ensures));
 }
 
 pub returns-in-Ok-Misfit : goal.returns-in-Ok-Misfit
 returns-in-Ok-Misfit g c = record {
   does =
-    let i = c.tokens.invariant in let run = i.going.running in let f = c.in_ok-token.ensures in let mid = c.fetch.new.self in
-    let s = rw c.in-Some.is at (does_call (hears g.T.Teller.wanting g.T.Teller.heard) (hears_part g.T.Teller.wanting g.T.Teller.part) fetch (option_map (token_at mid.names)) _ c.tokens.engine mid _ _ _ _ (f.follows run) (f.stops run) tt (f.keeps run) f.progress f.holds (no_more (f.lower run))) in
-    let t = token_at mid.names c.in-Some.token in let p = c.tokens.prefixes in
-    goes_turn_stops _ _ prefix_loop prefix_laws t _ c.args.first p _ _ mid c.bare_fault-in-Ok-Misfit.new.self _ _ _ _ _ _ _ _ i.going s
-    (does_fault _ _ (λ s. prefix_turn p t 0 s) (plain_prefix_turn p t) BAD_PREFIX c.bare_fault-in-Ok-Misfit.result mid c.bare_fault-in-Ok-Misfit.new.self _ _ s.holds.owns (rw c.in-Ok-Misfit.field-0-is at c.in-Ok-Misfit.ensures) c.bare_fault-in-Ok-Misfit.ensures.is c.bare_fault-in-Ok-Misfit.ensures.kept);
+      let i = c.tokens.invariant in let run = i.going.running in let f = c.in_ok-token.ensures in let mid = c.fetch.new.self in
+      let s = rw c.in-Some.is at (does_call (hears g.T.Teller.wanting g.T.Teller.heard) (hears_part g.T.Teller.wanting g.T.Teller.part) fetch (option_map (token_at mid.names)) _ c.tokens.engine mid _ _ _ _ (f.follows run) (f.stops run) tt (f.keeps run) f.progress f.holds (no_more (f.lower run))) in
+      let t = token_at mid.names c.in-Some.token in let p = c.tokens.prefixes in
+      goes_turn_stops _ _ prefix_loop prefix_laws t _ c.args.first p _ _ mid c.bare_fault-in-Ok-Misfit.new.self _ _ _ _ _ _ _ _ i.going s
+      (does_fault _ _ (λ s. prefix_turn p t 0 s) (plain_prefix_turn p t) BAD_PREFIX c.bare_fault-in-Ok-Misfit.result mid c.bare_fault-in-Ok-Misfit.new.self _ _ s.holds.owns (rw c.in-Ok-Misfit.field-0-is at c.in-Ok-Misfit.ensures) c.bare_fault-in-Ok-Misfit.ensures.is c.bare_fault-in-Ok-Misfit.ensures.kept);
 }
 
 pub returns-in-Err : goal.returns-in-Err
 returns-in-Err g c = record {
   does =
-    let i = c.tokens.invariant in let run = i.going.running in let f = c.in_ok-token.ensures in let mid = c.fetch.new.self in
-    let s = rw c.in-Some.is at (does_call (hears g.T.Teller.wanting g.T.Teller.heard) (hears_part g.T.Teller.wanting g.T.Teller.part) fetch (option_map (token_at mid.names)) _ c.tokens.engine mid _ _ _ _ (f.follows run) (f.stops run) tt (f.keeps run) f.progress f.holds (no_more (f.lower run))) in
-    let t = token_at mid.names c.in-Some.token in let p = c.tokens.prefixes in
-    goes_turn_stops _ _ prefix_loop prefix_laws t _ c.args.first p _ _ mid c.no_memory.new.self _ _ _ _ _ _ _ _ i.going s
-    (does_out _ _ (prefix_loop.turn p t) (prefix_laws.turn p t) c.no_memory.result mid c.no_memory.new.self _ _ s.keeps.sound s.holds.owns c.no_memory.ensures.is c.no_memory.ensures.kept);
+      let i = c.tokens.invariant in let run = i.going.running in let f = c.in_ok-token.ensures in let mid = c.fetch.new.self in
+      let s = rw c.in-Some.is at (does_call (hears g.T.Teller.wanting g.T.Teller.heard) (hears_part g.T.Teller.wanting g.T.Teller.part) fetch (option_map (token_at mid.names)) _ c.tokens.engine mid _ _ _ _ (f.follows run) (f.stops run) tt (f.keeps run) f.progress f.holds (no_more (f.lower run))) in
+      let t = token_at mid.names c.in-Some.token in let p = c.tokens.prefixes in
+      goes_turn_stops _ _ prefix_loop prefix_laws t _ c.args.first p _ _ mid c.no_memory.new.self _ _ _ _ _ _ _ _ i.going s
+      (does_out _ _ (prefix_loop.turn p t) (prefix_laws.turn p t) c.no_memory.result mid c.no_memory.new.self _ _ s.keeps.sound s.holds.owns c.no_memory.ensures.is c.no_memory.ensures.kept);
 }
 
 pub rounds-smaller : goal.rounds-smaller

@@ -12,7 +12,7 @@ use Rattle.texml_assign.proofs.Commands.{plain_begin, plain_end}
 use Rattle.texml_assign.proofs.executing.row.Goals as goal
 
 pub returns-in-Relax : goal.returns-in-Relax
-returns-in-Relax g c = record { does = rw c.in-Relax.is (does_now _ _ (give tt) (plain_give tt) tt c.args.engine.now _ _ c.requires.sound c.requires.owns c.requires.running (λ shelf. refl)); }
+returns-in-Relax g c = record { does = rw c.in-Relax.is (does_now _ _ (give tt) (plain_give tt) tt c.args.engine.now _ _ c.requires.sound c.requires.owns c.requires.running (λ shelf. refl)) }
 
 pub returns-in_err-begin_group-in-BeginGroup : goal.returns-in_err-begin_group-in-BeginGroup
 returns-in_err-begin_group-in-BeginGroup g c =
@@ -25,8 +25,8 @@ returns-in_err-begin_group-in-BeginGroup g c =
 pub returns-in_ok-begin_group-in-BeginGroup : goal.returns-in_ok-begin_group-in-BeginGroup
 returns-in_ok-begin_group-in-BeginGroup g c = record {
   does =
-    let b = c.in_ok-begin_group-in-BeginGroup.ensures in
-    rw c.in-BeginGroup.is (does_local _ _ (begin_kind Begin) (plain_begin Begin) (Ok tt) c.args.engine.now c.begin_group.new.engine _ _ c.requires.owns b.begins b.kept b.keeps b.advances b.files b.puts);
+      let b = c.in_ok-begin_group-in-BeginGroup.ensures in
+      rw c.in-BeginGroup.is (does_local _ _ (begin_kind Begin) (plain_begin Begin) (Ok tt) c.args.engine.now c.begin_group.new.engine _ _ c.requires.owns b.begins b.kept b.keeps b.advances b.files b.puts);
 }
 
 pub returns-in_err-end_group-in-EndGroup : goal.returns-in_err-end_group-in-EndGroup
@@ -40,6 +40,6 @@ returns-in_err-end_group-in-EndGroup g c =
 pub returns-in_ok-end_group-in-EndGroup : goal.returns-in_ok-end_group-in-EndGroup
 returns-in_ok-end_group-in-EndGroup g c = record {
   does =
-    let b = c.in_ok-end_group-in-EndGroup.ensures in
-    rw c.in-EndGroup.is (does_local _ _ (end_kind Begin) (plain_end Begin) (Ok tt) c.args.engine.now c.end_group.new.engine _ _ c.requires.owns b.ends b.kept b.keeps b.advances b.files b.puts);
+      let b = c.in_ok-end_group-in-EndGroup.ensures in
+      rw c.in-EndGroup.is (does_local _ _ (end_kind Begin) (plain_end Begin) (Ok tt) c.args.engine.now c.end_group.new.engine _ _ c.requires.owns b.ends b.kept b.keeps b.advances b.files b.puts);
 }

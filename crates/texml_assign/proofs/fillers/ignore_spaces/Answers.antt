@@ -15,6 +15,6 @@ returns-in_err-first g c =
 pub returns : goal.returns
 returns g c = record {
   does =
-    let mid = c.first_behind.new.engine in let new = c.put_looked.new.engine in let o : Option Looked = option_map (looked_at mid.names) c.in_ok-first.first in let r = c.put_looked.ensures in
-    does_put _ _ _ (first_behind Spaces) put_looked (lawful_first Spaces) put_decided put_unlimited o c.put_looked.result _ mid new _ _ _ _ c.in_ok-first.ensures.does c.in_ok-first.ensures.takes r.is r.kept r.keeps r.advances r.files r.puts;
+      let mid = c.first_behind.new.engine in let new = c.put_looked.new.engine in let o : Option Looked = option_map (looked_at mid.names) c.in_ok-first.first in let r = c.put_looked.ensures in
+      does_put _ _ _ (first_behind Spaces) put_looked (lawful_first Spaces) put_decided put_unlimited o c.put_looked.result _ mid new _ _ _ _ c.in_ok-first.ensures.does c.in_ok-first.ensures.takes r.is r.kept r.keeps r.advances r.files r.puts;
 }

@@ -15,6 +15,6 @@ returns-in_err-first g c =
 pub returns : goal.returns
 returns g c = record {
   does =
-    let mid = c.first_behind.new.engine in let new = c.past_equals.new.engine in let o : Option Looked = option_map (looked_at mid.names) c.in_ok-first.first in let r = c.past_equals.ensures in
-    does_put _ _ _ (first_behind Spaces) past_equals (lawful_first Spaces) past_decided past_unlimited o c.past_equals.result _ mid new _ _ _ _ c.in_ok-first.ensures.does c.in_ok-first.ensures.takes r.is r.kept r.keeps r.advances r.files r.puts;
+      let mid = c.first_behind.new.engine in let new = c.past_equals.new.engine in let o : Option Looked = option_map (looked_at mid.names) c.in_ok-first.first in let r = c.past_equals.ensures in
+      does_put _ _ _ (first_behind Spaces) past_equals (lawful_first Spaces) past_decided past_unlimited o c.past_equals.result _ mid new _ _ _ _ c.in_ok-first.ensures.does c.in_ok-first.ensures.takes r.is r.kept r.keeps r.advances r.files r.puts;
 }

@@ -14,6 +14,6 @@ returns-in_err-list g c =
 pub returns : goal.returns
 returns g c = record {
   does =
-    let case = c.args.case in let mid = c.next_group.new.engine in let new = c.put_in_case.new.engine in let list = tokens_at mid.names c.in_ok-list.list in let r = c.put_in_case.ensures in
-    does_put _ _ _ next_group (λ list. change (put_in_case case list)) lawful_next_group (λ list s. tt) (λ list s. tt) list c.put_in_case.result _ mid new _ _ _ _ c.in_ok-list.ensures.does c.in_ok-list.ensures.takes r.changes r.kept r.keeps r.advances r.files r.puts;
+      let case = c.args.case in let mid = c.next_group.new.engine in let new = c.put_in_case.new.engine in let list = tokens_at mid.names c.in_ok-list.list in let r = c.put_in_case.ensures in
+      does_put _ _ _ next_group (λ list. change (put_in_case case list)) lawful_next_group (λ list s. tt) (λ list s. tt) list c.put_in_case.result _ mid new _ _ _ _ c.in_ok-list.ensures.does c.in_ok-list.ensures.takes r.changes r.kept r.keeps r.advances r.files r.puts;
 }

@@ -37,25 +37,25 @@ returns-in_err-meaning g c =
 pub returns-in-Some : goal.returns-in-Some
 returns-in-Some g c = record {
   does =
-    let naming = c.args.naming in let f = c.in_ok-star.ensures.does in let star = c.in_ok-star.star in
-    let e1 = c.command_key.new.engine in let key = c.in-Some.key in let o = Some (key_at e1.names key) in let k = rw c.in-Some.is at c.in_ok-key.ensures.does in
-    let m = c.in_ok-meaning.ensures.does in let e2 = c.command_macro.new.engine in let v = meaning_at e2.names c.in_ok-meaning.meaning in let new = c.assign.new.engine in
-    let stays = key_stays e1.names e2.names m.keeps.grows key (rw c.in-Some.is at c.in_ok-key.ensures.within) in
-    let P : Key → Type 0 = λ x. Local (change (assign false x v)) c.assign.result e2 new in
-    does_then _ _ (λ n. starred) (λ star n. star_read naming star) (lawful_plain starred plain_starred) (λ star. lawful_plain (star_read naming star) (plain_star_read naming star)) star _ _ _ _ _ _ _ _ _ _ f
-    (does_then _ _ (λ n. command_key naming) (λ o n. key_read star o) (lawful_plain (command_key naming) (plain_command_key naming)) (λ o. lawful_plain (key_read star o) (plain_key_read star o)) o _ _ _ _ _ _ _ _ _ _ k
-    (does_then _ _ (λ n. command_macro (not star)) (λ x n. macro_read o x) (lawful_plain (command_macro (not star)) (plain_command_macro (not star))) (λ x. lawful_plain (macro_read o x) (plain_assign_some o x)) v _ _ _ _ _ _ _ _ _ _ m
-    (does_local _ _ (macro_read o v) (plain_assign_some o v) c.assign.result e2 new _ _ m.holds.owns (subst P stays c.assign.ensures.sets) c.assign.ensures.kept c.assign.ensures.keeps c.assign.ensures.advances c.assign.ensures.files c.assign.ensures.puts)));
+      let naming = c.args.naming in let f = c.in_ok-star.ensures.does in let star = c.in_ok-star.star in
+      let e1 = c.command_key.new.engine in let key = c.in-Some.key in let o = Some (key_at e1.names key) in let k = rw c.in-Some.is at c.in_ok-key.ensures.does in
+      let m = c.in_ok-meaning.ensures.does in let e2 = c.command_macro.new.engine in let v = meaning_at e2.names c.in_ok-meaning.meaning in let new = c.assign.new.engine in
+      let stays = key_stays e1.names e2.names m.keeps.grows key (rw c.in-Some.is at c.in_ok-key.ensures.within) in
+      let P : Key → Type 0 = λ x. Local (change (assign false x v)) c.assign.result e2 new in
+      does_then _ _ (λ n. starred) (λ star n. star_read naming star) (lawful_plain starred plain_starred) (λ star. lawful_plain (star_read naming star) (plain_star_read naming star)) star _ _ _ _ _ _ _ _ _ _ f
+      (does_then _ _ (λ n. command_key naming) (λ o n. key_read star o) (lawful_plain (command_key naming) (plain_command_key naming)) (λ o. lawful_plain (key_read star o) (plain_key_read star o)) o _ _ _ _ _ _ _ _ _ _ k
+      (does_then _ _ (λ n. command_macro (not star)) (λ x n. macro_read o x) (lawful_plain (command_macro (not star)) (plain_command_macro (not star))) (λ x. lawful_plain (macro_read o x) (plain_assign_some o x)) v _ _ _ _ _ _ _ _ _ _ m
+      (does_local _ _ (macro_read o v) (plain_assign_some o v) c.assign.result e2 new _ _ m.holds.owns (subst P stays c.assign.ensures.sets) c.assign.ensures.kept c.assign.ensures.keeps c.assign.ensures.advances c.assign.ensures.files c.assign.ensures.puts)));
 }
 
 pub returns-in-None : goal.returns-in-None
 returns-in-None g c = record {
   does =
-    let naming = c.args.naming in let f = c.in_ok-star.ensures.does in let star = c.in_ok-star.star in
-    let e1 = c.command_key.new.engine in let o : Option Key = None in let k = rw c.in-None.is at c.in_ok-key.ensures.does in
-    let m = c.in_ok-meaning.ensures.does in let e2 = c.command_macro.new.engine in let v = meaning_at e2.names c.in_ok-meaning.meaning in
-    does_then _ _ (λ n. starred) (λ star n. star_read naming star) (lawful_plain starred plain_starred) (λ star. lawful_plain (star_read naming star) (plain_star_read naming star)) star _ _ _ _ _ _ _ _ _ _ f
-    (does_then _ _ (λ n. command_key naming) (λ o n. key_read star o) (lawful_plain (command_key naming) (plain_command_key naming)) (λ o. lawful_plain (key_read star o) (plain_key_read star o)) o _ _ _ _ _ _ _ _ _ _ k
-    (does_then _ _ (λ n. command_macro (not star)) (λ x n. macro_read o x) (lawful_plain (command_macro (not star)) (plain_command_macro (not star))) (λ x. lawful_plain (macro_read o x) (plain_assign_some o x)) v _ _ _ _ _ _ _ _ _ _ m
-    (does_now _ _ (macro_read o v) (plain_assign_some o v) tt e2 _ _ m.keeps.sound m.holds.owns m.stops.kept (λ shelf. refl))));
+      let naming = c.args.naming in let f = c.in_ok-star.ensures.does in let star = c.in_ok-star.star in
+      let e1 = c.command_key.new.engine in let o : Option Key = None in let k = rw c.in-None.is at c.in_ok-key.ensures.does in
+      let m = c.in_ok-meaning.ensures.does in let e2 = c.command_macro.new.engine in let v = meaning_at e2.names c.in_ok-meaning.meaning in
+      does_then _ _ (λ n. starred) (λ star n. star_read naming star) (lawful_plain starred plain_starred) (λ star. lawful_plain (star_read naming star) (plain_star_read naming star)) star _ _ _ _ _ _ _ _ _ _ f
+      (does_then _ _ (λ n. command_key naming) (λ o n. key_read star o) (lawful_plain (command_key naming) (plain_command_key naming)) (λ o. lawful_plain (key_read star o) (plain_key_read star o)) o _ _ _ _ _ _ _ _ _ _ k
+      (does_then _ _ (λ n. command_macro (not star)) (λ x n. macro_read o x) (lawful_plain (command_macro (not star)) (plain_command_macro (not star))) (λ x. lawful_plain (macro_read o x) (plain_assign_some o x)) v _ _ _ _ _ _ _ _ _ _ m
+      (does_now _ _ (macro_read o v) (plain_assign_some o v) tt e2 _ _ m.keeps.sound m.holds.owns m.stops.kept (λ shelf. refl))));
 }

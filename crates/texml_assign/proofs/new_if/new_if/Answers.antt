@@ -16,7 +16,7 @@ returns-in_err-token g c =
 pub returns : goal.returns
 returns g c = record {
   does =
-    let mid = c.next_token.new.engine in let t = token_at mid.names c.in_ok-token.token in let new = c.new_if_of.new.engine in let r = c.new_if_of.ensures in
-    does_then _ _ (λ n. next_token) (λ t n. new_if_of t) (lawful_plain next_token plain_next) (λ t. lawful_plain (new_if_of t) (plain_new_if_of t)) t c.new_if_of.result _ mid new _ _ _ _ _ _ c.in_ok-token.ensures.does
-    (does_local _ _ (new_if_of t) (plain_new_if_of t) c.new_if_of.result mid new _ _ c.in_ok-token.ensures.does.holds.owns r.makes r.kept r.keeps r.advances r.files r.puts);
+      let mid = c.next_token.new.engine in let t = token_at mid.names c.in_ok-token.token in let new = c.new_if_of.new.engine in let r = c.new_if_of.ensures in
+      does_then _ _ (λ n. next_token) (λ t n. new_if_of t) (lawful_plain next_token plain_next) (λ t. lawful_plain (new_if_of t) (plain_new_if_of t)) t c.new_if_of.result _ mid new _ _ _ _ _ _ c.in_ok-token.ensures.does
+      (does_local _ _ (new_if_of t) (plain_new_if_of t) c.new_if_of.result mid new _ _ c.in_ok-token.ensures.does.holds.owns r.makes r.kept r.keeps r.advances r.files r.puts);
 }

@@ -20,8 +20,8 @@ returns-in_err-assign g c =
 pub returns : goal.returns
 returns g c = record {
   does =
-    let old = c.args.engine.now in let mid = c.assign.new.engine in let k = c.in_ok-assign.ensures in let key = key_at old.names c.args.key in let new = c.short_equals.new.engine in
-    let s = does_local (hears g.T.Teller.wanting g.T.Teller.heard) (hears_part g.T.Teller.wanting g.T.Teller.part) (relaxes c.args.global key) (plain_assign c.args.global key _) (Ok tt) old mid (outside (g.F.Files.shelf c.args.files.now) (g.F.Files.faults c.args.files.now) (g.T.Teller.faults c.args.tell.now) (g.T.Teller.loan c.args.tell.now)) c.args.tell.now c.requires.owns k.sets k.kept k.keeps k.advances k.files k.puts in
-    does_then _ _ (λ n. relaxes c.args.global key) (λ _. short_equals c.args.global c.args.what key) (lawful_plain (relaxes c.args.global key) (plain_assign c.args.global key _)) (λ _. lawful_short_equals c.args.global c.args.what key) tt c.short_equals.result old mid new _ _ _ _ _ _ s
-    (rw (← key_stays old.names mid.names s.keeps.grows c.args.key c.requires.key) c.short_equals.ensures.does);
+      let old = c.args.engine.now in let mid = c.assign.new.engine in let k = c.in_ok-assign.ensures in let key = key_at old.names c.args.key in let new = c.short_equals.new.engine in
+      let s = does_local (hears g.T.Teller.wanting g.T.Teller.heard) (hears_part g.T.Teller.wanting g.T.Teller.part) (relaxes c.args.global key) (plain_assign c.args.global key _) (Ok tt) old mid (outside (g.F.Files.shelf c.args.files.now) (g.F.Files.faults c.args.files.now) (g.T.Teller.faults c.args.tell.now) (g.T.Teller.loan c.args.tell.now)) c.args.tell.now c.requires.owns k.sets k.kept k.keeps k.advances k.files k.puts in
+      does_then _ _ (λ n. relaxes c.args.global key) (λ _. short_equals c.args.global c.args.what key) (lawful_plain (relaxes c.args.global key) (plain_assign c.args.global key _)) (λ _. lawful_short_equals c.args.global c.args.what key) tt c.short_equals.result old mid new _ _ _ _ _ _ s
+      (rw (← key_stays old.names mid.names s.keeps.grows c.args.key c.requires.key) c.short_equals.ensures.does);
 }

@@ -16,7 +16,7 @@ returns-in_err-key g c =
 pub returns : goal.returns
 returns g c = record {
   does =
-    let old = c.args.engine.now in let mid = c.next_key.new.engine in let new = c.short_key.new.engine in
-    does_then _ _ (λ n. next_key) (short_key c.args.global c.args.what) (lawful_plain next_key plain_next_key) (lawful_short_key c.args.global c.args.what) (key_at mid.names c.in_ok-key.key) c.short_key.result _ mid new _ _ _ _ _ _ c.in_ok-key.ensures.does
-    c.short_key.ensures.does;
+      let old = c.args.engine.now in let mid = c.next_key.new.engine in let new = c.short_key.new.engine in
+      does_then _ _ (λ n. next_key) (short_key c.args.global c.args.what) (lawful_plain next_key plain_next_key) (lawful_short_key c.args.global c.args.what) (key_at mid.names c.in_ok-key.key) c.short_key.result _ mid new _ _ _ _ _ _ c.in_ok-key.ensures.does
+      c.short_key.ensures.does;
 }
