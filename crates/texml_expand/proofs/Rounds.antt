@@ -132,6 +132,9 @@ module _ {T : Type 0} (hear part : T → Record → T → Type 0) where
       expand_does t x r old new f h a c (did_then hear part (begin (state_of f.shelf old)) _ tt r old mid new f f h a a c d
       (did_then hear part (given total t x (state_of f.shelf mid)) (finish t) gift r mid now new f g h a b c (did_of hear part (λ c. given c t x) (lawful_given t x) (Ok gift) mid now f g a b k) u))
 
+  pub expand_same : (t : Token) (x y : Expandable) (r : Result (Unit {0}) Stop) (old new : Held) (f g : Outside) (a b : T) → x ≡ y → Does hear part (λ n. (level n).expand t x) r old new f g a b → Does hear part (λ n. (level n).expand t y) r old new f g a b
+  expand_same t x y r old new f g a b e d = subst (λ z. Does hear part (λ n. (level n).expand t z) r old new f g a b) e d
+
   -- \input, of which no name is read, or one that opens a file
   pub expand_unnamed : (t : Token) (e : Stop) (old mid new : Held) (f g : Outside) (a b : T) → Did hear part (begin (state_of f.shelf old)) (Ok tt) old mid f f a a → Does hear part (λ n. file_name (level n)) (Err e) mid new f g a b
       → Does hear part (λ n. (level n).expand t Input) (Err e) old new f g a b

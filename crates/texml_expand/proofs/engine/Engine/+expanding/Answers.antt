@@ -17,7 +17,7 @@ use Rattle.texml_expand.specs.Hearing.{hears, hears_part}
 use Rattle.texml_expand.proofs.Lawful.{lawful_give, lawful_scan, lawful_fetch}
 use Rattle.texml_expand.proofs.Looking.{lawful_character, lawful_register, value, lawful_value, lawful_index, lawful_look, lawful_key, lawful_internal_of, lawful_internal, counts, lawful_counts, lawful_take}
 use Rattle.texml_expand.proofs.Doing.{by_new, did_silent, did_gets, does_silent, does_gets, does_as, does_now, does_stop, does_then, does_out, does_fault, did_out}
-use Rattle.texml_expand.proofs.Rounds.{expand_unnamed, expand_opens, index_as, front_did, given_as, begins_did, finish_did, expand_stops, expand_ungiven, expand_ends, fetch_stops, fetch_ends, fetch_plain, fetching_on, fetch_unexpanded, looked_as}
+use Rattle.texml_expand.proofs.Rounds.{expand_same, expand_unnamed, expand_opens, index_as, front_did, given_as, begins_did, finish_did, expand_stops, expand_ungiven, expand_ends, fetch_stops, fetch_ends, fetch_plain, fetching_on, fetch_unexpanded, looked_as}
 use Rattle.texml_scope.specs.Numbers.{key_at, meaning_at}
 use Rattle.texml_expand.specs.VariableCodes.{internal_at}
 use Rattle.texml_expand.specs.declared.machine.Value.TheVariants as worths
@@ -58,7 +58,7 @@ use Rattle.texml_expand.proofs.Testing.{face_stops, face_ends, face_out, face_do
 use Rattle.texml_expand.proofs.Worth.{dimen_same}
 use Rattle.texml_token.specs.declared.fault_code.TheConstants.{FILE_ENDED}
 use Rattle.texml_token.proofs.Translation.{token_more}
-use Rattle.texml_expand.specs.Calls.{Puts}
+use Rattle.texml_expand.specs.Calls.{Input, Puts}
 use Rattle.texml_expand.specs.Front as fronts
 use Rattle.texml_expand.specs.Expansion.{one_token, behind_first}
 use Rattle.texml_expand.specs.Names.{name_of}
@@ -71,9 +71,12 @@ use Rattle.texml_expand.specs.Front.{Plain}
 use Rattle.texml_expand.specs.Gathering.{copies}
 use Rattle.texml_expand.proofs.Gathered.{gather_stops, gather_ends, gather_broken, gather_unleft, gather_yields, gather_refuses, gathers_token, gathers_expansion, gather_unexpanded, gather_short, once_stops, once_expanded}
 use Rattle.std.specs.Prelude.{string_bytes}
-use Rattle.texml_expand.specs.Include.{peeked, bytes_of, argument_alone, characters, file_name}
-use Rattle.texml_expand.proofs.Including.{lawful_peeked, lawful_argument_alone, lawful_characters}
+use Rattle.texml_expand.specs.Include.{peeked, bytes_of, argument_alone, characters, file_name, end_input}
+use Rattle.texml_expand.proofs.Including.{lawful_peeked, lawful_argument_alone, lawful_characters, lawful_end_input}
 use Rattle.texml_expand.proofs.FileNames.{name_unseen, name_seen, plain_stops, plain_does, argument_stops, argument_unread, argument_does, left_stops, left_does, up_does, unfenced_shrinks}
+use Rattle.texml_input.specs.Held.{IsAtFence}
+use Rattle.texml_expand.specs.contracts.engine.Engine.{the_view}
+use Rattle.texml_expand.specs.declared.gathering.Gathering.TheVariants.{All}
 use Rattle.texml_expand.proofs.engine.Engine.+expanding.Goals as goal
 
 pub expand-returns-clause-does : goal.expand-returns-clause-does
@@ -263,6 +266,18 @@ given-returns-in_ok-list-in-RomanNumeral-clause-does g t c =
     let tok = token_at mine.names c.args.token in
     let d = puts_does (hears T.wanting T.heard) (hears_part T.wanting T.part) roman_numeral lawful_roman_numeral _ _ _ _ _ _ _ c.in_ok-list-in-RomanNumeral.ensures.does in
     given_as (hears T.wanting T.heard) (hears_part T.wanting T.part) tok tok _ (expandable_at mine.names c.args.found) _ _ _ _ _ _ _ refl (ap (expandable_at mine.names) c.in-RomanNumeral.is) d
+
+pub given-returns-in-EndInput-clause-does : goal.given-returns-in-EndInput-clause-does
+given-returns-in-EndInput-clause-does g t c =
+    let T = g.T.Teller in
+    let F = g.F.Files in
+    let mine = c.args.self.now in
+    let new = c.end_input.new.self in
+    let e = c.end_input.ensures in
+    let shelf = F.shelf c.args.files.now in
+    let out = outside shelf (F.faults c.args.files.now) (T.faults c.args.tell.now) (T.loan c.args.tell.now) in
+    given_as (hears T.wanting T.heard) (hears_part T.wanting T.part) _ (token_at mine.names c.args.token) _ _ _ _ _ _ _ _ _ refl (ap (expandable_at mine.names) c.in-EndInput.is)
+    (does_silent (hears T.wanting T.heard) (hears_part T.wanting T.part) (λ c'. end_input) lawful_end_input (Ok (gift_at new.names c.end_input.result)) mine new out c.args.tell.now (e.ends shelf) (e.running ∙ c.requires.running) tt e.keeps e.progress e.files c.requires.owns)
 
 pub given-returns-in_err-list-in-The-clause-does : goal.given-returns-in_err-list-in-The-clause-does
 given-returns-in_err-list-in-The-clause-does g t c =
@@ -1335,8 +1350,8 @@ gather-returns-in-Err-push-clause-does g t c =
     let e = c.no_memory-in-Err-push.ensures in
     gather_broken (hears T.wanting T.heard) (hears_part T.wanting T.part) c.args.gathering (Plain (read_at mid.names c.in-Plain.read)) _ _ _ mid _ _ _ _ _ _ _ _ _ i d (did_out (hears T.wanting T.heard) (hears_part T.wanting T.part) _ c.no_memory-in-Err-push.result mid c.no_memory-in-Err-push.new.self (outside (F.shelf files) (F.faults files) (T.faults tell) (T.loan tell)) tell e.is e.kept d.holds.owns)
 
-pub gather-returns-in_err-leave-clause-does : goal.gather-returns-in_err-leave-clause-does
-gather-returns-in_err-leave-clause-does g t c =
+pub gather-returns-in_err-leave-in-Yields-clause-does : goal.gather-returns-in_err-leave-in-Yields-clause-does
+gather-returns-in_err-leave-in-Yields-clause-does g t c =
     let T = g.T.Teller in
     let F = g.F.Files in
     let i = c.tokens.invariant.on in
@@ -1344,12 +1359,12 @@ gather-returns-in_err-leave-clause-does g t c =
     let tell = c.tokens.tell in
     let d = front_did (hears T.wanting T.heard) (hears_part T.wanting T.part) _ _ c.tokens.self mid _ _ _ _ (T.faults tell) (T.loan tell) tell c.in-Plain.is c.in_ok-front.ensures.gets in
     let is = rw c.in-Yields.is at c.in-Ok.ensures.is in
-    let e = c.in_err-leave.ensures in
+    let e = c.in_err-leave-in-Yields.ensures in
     let h = gather_unleft (hears T.wanting T.heard) (hears_part T.wanting T.part) c.args.gathering _ (tokens_at mid.names c.in-Yields.list) c.in-Plain.read _ _ mid c.leave.new.self _ _ _ _ _ _ i d is e.leaves e.kept e.limit e.progress e.files in
-    rw (passed_on c.from_residual-in_err-leave.result c.in_err-leave.field-0.0 c.from_residual-in_err-leave.ensures) h
+    rw (passed_on c.from_residual-in_err-leave-in-Yields.result c.in_err-leave-in-Yields.field-0.0 c.from_residual-in_err-leave-in-Yields.ensures) h
 
-pub gather-returns-in_ok-leave-clause-does : goal.gather-returns-in_ok-leave-clause-does
-gather-returns-in_ok-leave-clause-does g t c =
+pub gather-returns-in-Yields-clause-does : goal.gather-returns-in-Yields-clause-does
+gather-returns-in-Yields-clause-does g t c =
     let T = g.T.Teller in
     let F = g.F.Files in
     let i = c.tokens.invariant.on in
@@ -1357,18 +1372,18 @@ gather-returns-in_ok-leave-clause-does g t c =
     let tell = c.tokens.tell in
     let d = front_did (hears T.wanting T.heard) (hears_part T.wanting T.part) _ _ c.tokens.self mid _ _ _ _ (T.faults tell) (T.loan tell) tell c.in-Plain.is c.in_ok-front.ensures.gets in
     let is = rw c.in-Yields.is at c.in-Ok.ensures.is in
-    let e = c.in_ok-leave.ensures in
+    let e = c.in_ok-leave-in-Yields.ensures in
     gather_yields (hears T.wanting T.heard) (hears_part T.wanting T.part) c.args.gathering c.in-Yields.list c.in-Plain.read _ _ mid c.leave.new.self _ _ _ _ _ _ i d is e.leaves e.kept e.keeps e.progress e.files e.names
 
-pub gather-returns-in_ok-leave-clause-lower : goal.gather-returns-in_ok-leave-clause-lower
-gather-returns-in_ok-leave-clause-lower g t c =
+pub gather-returns-in-Yields-clause-lower : goal.gather-returns-in-Yields-clause-lower
+gather-returns-in-Yields-clause-lower g t c =
     let mid = c.front.new.self in
     let is = rw c.in-Yields.is at c.in-Ok.ensures.is in
     let low = rw c.in-Plain.is at c.in_ok-front.ensures.lower in
-    gathered_left c.args.gathering mid.names _ _ c.in-Yields.list c.in-Plain.read _ _ _ _ _ mid c.leave.new.self c.tokens.invariant.on.lower low is c.in_ok-leave.ensures.puts
+    gathered_left c.args.gathering mid.names _ _ c.in-Yields.list c.in-Plain.read _ _ _ _ _ mid c.leave.new.self c.tokens.invariant.on.lower low is c.in_ok-leave-in-Yields.ensures.puts
 
-pub gather-returns-in_ok-leave-clause-ends : goal.gather-returns-in_ok-leave-clause-ends
-gather-returns-in_ok-leave-clause-ends g t c =
+pub gather-returns-in-Yields-clause-ends : goal.gather-returns-in-Yields-clause-ends
+gather-returns-in-Yields-clause-ends g t c =
     let mid = c.front.new.self in
     let is = rw c.in-Yields.is at c.in-Ok.ensures.is in
     yields_ends c.args.gathering _ _ (tokens_at mid.names c.in-Yields.list) (read_at mid.names c.in-Plain.read) c.leave.new.self.input.sources is
@@ -1382,7 +1397,7 @@ gather-returns-in-Refuses-clause-does g t c =
     let tell = c.tokens.tell in
     let d = front_did (hears T.wanting T.heard) (hears_part T.wanting T.part) _ _ c.tokens.self mid _ _ _ _ (T.faults tell) (T.loan tell) tell c.in-Plain.is c.in_ok-front.ensures.gets in
     let is = rw c.in-Refuses.is at c.in-Ok.ensures.is in
-    let e = c.bare_fault-in-Refuses.ensures in
+    let e = c.bare_fault.ensures in
     gather_refuses (hears T.wanting T.heard) (hears_part T.wanting T.part) c.args.gathering c.in-Refuses.code _ c.in-Plain.read _ _ mid _ _ _ _ _ _ _ i d is e.is e.kept
 
 pub gather-tokens-preserved : goal.gather-tokens-preserved
@@ -1611,6 +1626,20 @@ all_left-returns-in_err-list-clause-does g t c =
     let h = left_stops (hears T.wanting T.heard) (hears_part T.wanting T.part) _ _ _ _ _ _ _ c.in_err-list.ensures.does in
     search (rules, h)
 
+pub all_left-returns-clause-does : goal.all_left-returns-clause-does
+all_left-returns-clause-does g t c =
+    let T = g.T.Teller in
+    let F = g.F.Files in
+    let hear = hears T.wanting T.heard in
+    let part = hears_part T.wanting T.part in
+    let now = c.gather.new.self in
+    let h = the_view c.self.inside in
+    let before = outside (F.shelf c.args.files.now) (F.faults c.args.files.now) (T.faults c.args.tell.now) (T.loan c.args.tell.now) in
+    let after = outside (F.shelf c.gather.new.files) (F.faults c.gather.new.files) (T.faults c.gather.new.tell) (T.loan c.gather.new.tell) in
+    let d = subst (λ n. Does hear part (λ m. (level m).gather All []) (Ok (tokens_at n.names c.in_ok-list.list)) c.args.self.now n before after c.args.tell.now c.gather.new.tell) (sym c.self.view_is) c.in_ok-list.ensures.does in
+    let at = subst (λ n. IsAtFence n.input.sources) (sym c.self.view_is) c.in_ok-list.ensures.ends in
+    rw c.unfence.ensures (left_does hear part _ _ c.args.self.now h _ before after after c.args.tell.now c.gather.new.tell c.gather.new.tell d (up_does hear part (tokens_at h.names c.in_ok-list.list) h after c.gather.new.tell at d.keeps.sound d.stops.kept d.holds.owns))
+
 -- \input
 
 pub expand-file_name-requires : goal.expand-file_name-requires
@@ -1643,8 +1672,8 @@ expand-returns-in_err-name-clause-does g t c =
     let b = c.in_ok-begin.ensures in
     let mine = c.args.self.now in
     let d = begins_did (hears T.wanting T.heard) (hears_part T.wanting T.part) _ mine c.begin.new.self (outside (F.shelf c.args.files.now) (F.faults c.args.files.now) (T.faults c.args.tell.now) (T.loan c.args.tell.now)) c.args.tell.now c.requires.sound b.begins b.kept b.is b.within b.limit b.progress b.files c.requires.owns in
-    let is = c.opens_file.ensures.yes c.if-opens_file.true in
-    let h = rw (← is) (expand_unnamed (hears T.wanting T.heard) (hears_part T.wanting T.part) (token_at mine.names c.args.token) _ _ _ _ _ _ _ _ d c.in_err-name.ensures.does) in
+    let is = ap (expandable_at mine.names) (c.opens_file.ensures.yes c.if-opens_file.true) in
+    let h = expand_same (hears T.wanting T.heard) (hears_part T.wanting T.part) (token_at mine.names c.args.token) Input _ _ _ _ _ _ _ _ (sym is) (expand_unnamed (hears T.wanting T.heard) (hears_part T.wanting T.part) (token_at mine.names c.args.token) _ _ _ _ _ _ _ _ d c.in_err-name.ensures.does) in
     search (rules, h)
 
 pub expand-returns-then-opens_file-clause-does : goal.expand-returns-then-opens_file-clause-does
