@@ -1686,7 +1686,8 @@ expand-returns-then-opens_file-clause-does g t c =
     let x = c.in_ok-name.ensures.does in
     let d = begins_did (hears T.wanting T.heard) (hears_part T.wanting T.part) _ mine c.begin.new.self (outside (F.shelf c.args.files.now) (F.faults c.args.files.now) (T.faults c.args.tell.now) (T.loan c.args.tell.now)) c.args.tell.now c.requires.sound b.begins b.kept b.is b.within b.limit b.progress b.files c.requires.owns in
     let names = subst (λ (h : Held). Extends h.names now.names) b.is x.progress.names in
-    let u = rw (token_kept mine.names now.names names c.args.token c.requires.token) at c.open.ensures.tells in
+    let kept = rw (token_kept mine.names now.names names c.args.token c.requires.token) at c.open.ensures.tells in
+    let u = rw c.deref.ensures at kept in
     rw (c.opens_file.ensures.yes c.if-opens_file.true) (expand_opens (hears T.wanting T.heard) (hears_part T.wanting T.part) (token_at mine.names c.args.token) (string_bytes c.in_ok-name.name) _ _ _ _ _ _ _ _ _ _ _ d x u)
 
 pub expand-returns-then-opens_file-clause-begins : goal.expand-returns-then-opens_file-clause-begins

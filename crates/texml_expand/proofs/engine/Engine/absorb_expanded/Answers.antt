@@ -1,4 +1,4 @@
-use Rattle.std.proofs.Common.{subst, sym, Ok, Err, true, false, length, ◌+◌}
+use Rattle.std.proofs.Common.{subst, sym, Ok, Err, true, false, length, None, ◌≡◌, ◌+◌}
 use Rattle.texml_token.specs.Numbers.{tokens_at}
 use Rattle.texml_expand.specs.Contract.{outside}
 use Rattle.texml_expand.specs.contracts.engine.Engine.{the_view}
@@ -47,4 +47,4 @@ returns-clause-lower g c =
     let h = the_view c.self.inside in
     let mid = the_view c.self-2.inside in
     let low = c.in_ok-list.ensures.lower in
-    rw (← c.self.view_is) (set_shrinks (length c.in_ok-list.list + 1) true false (F.shelf c.args.files.now) (F.shelf c.gather.new.files) h mid (rw (← c.self-2.view_is) low))
+    rw (← c.self.view_is) (set_shrinks (length c.in_ok-list.list + 1) true false (F.shelf c.args.files.now) (F.shelf c.gather.new.files) h mid (rw c.self-2.view_is low))
