@@ -209,22 +209,35 @@ fn a_note_ends_where_its_sink_fails(rt: HostRuntime) -> Result<(), Fail> {
 
 const TWO: &[u8] = b"Hello\nworld\n\nTwo\n";
 
-// The open, the 17 reads of a byte and the read of the end may fail: the twentieth call is never made.
+// Each inputs a part of the other, so that the main file is open twice. Of the other file the last line is never loaded.
+const MAIN: &[u8] =
+    b"\\ifx\\again\\undefined\\def\\again{}main \\input other behind\\else inner\\fi\n";
+
+const OTHER: &[u8] = b"other \\input main \\endinput last\nlost\n";
+
+// Over two paragraphs the calls are the open, the 17 reads of a byte and the read of the end.
 #[test]
 fn each_call_on_files_may_fail(rt: HostRuntime) -> Result<(), Fail> {
     let alloc = rt.alloc();
-    for call in 1..21 {
-        let mut files = main_file(alloc, TWO, 1, call)?;
-        let mut out = MemorySink::new(alloc, 1000, 0)?;
-        let mut notes = MemorySink::new(alloc, 10, 0)?;
-        let words = words_of(alloc, &["convert", "main.tex"])?;
-        match run(alloc, &words, &mut files, &mut out, &mut notes) {
-            Status::ReadFault => {
-                assert!(rt; call < 20);
-                assert_eq!(rt; out.bytes().len(), 0);
+    let rows: [(&[u8], u64); 2] = [(TWO, 19), (MAIN, 180)];
+    for (text, calls) in rows {
+        for call in 1..calls + 2 {
+            let mut files = main_file(alloc, text, 1, call)?;
+            files.add(alloc, "other.tex", OTHER)?;
+            let mut out = MemorySink::new(alloc, 1000, 0)?;
+            let mut notes = MemorySink::new(alloc, 100, 0)?;
+            let words = words_of(alloc, &["convert", "main.tex"])?;
+            match run(alloc, &words, &mut files, &mut out, &mut notes) {
+                Status::ReadFault => {
+                    assert!(rt; call <= calls);
+                    assert_eq!(rt; out.bytes().len(), 0);
+                    assert_eq!(rt; notes.bytes(), b"read failed\n".as_slice());
+                }
+                Status::Done => assert_eq!(rt; call, calls + 1),
+                _ => assert!(rt; false),
             }
-            Status::Done => assert_eq!(rt; call, 20),
-            _ => assert!(rt; false),
+            // A file may be added only where none is open.
+            files.add(alloc, "further.tex", b"")?;
         }
     }
     Ok(())
