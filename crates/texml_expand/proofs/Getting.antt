@@ -1,18 +1,19 @@
 -- Calls that tell nobody, one after the other.
-use Rattle.std.proofs.Common.{◌≡◌, ℕ, List, [], None, Some, Result, Ok, Err, refl, sym, subst}
+use Rattle.std.proofs.Common.{◌≡◌, ℕ, IsTrue, List, [], None, Some, Result, Ok, Err, refl, sym, subst}
 use Rattle.std.specs.Result.{OnOk}
 use Rattle.texml_token.specs.Numbers.{Table}
+use Rattle.texml_input.specs.Held.{AreLittle}
 use Rattle.texml_expand.specs.declared.stop.Stop.{Stop}
 use Rattle.texml_expand.specs.declared.stop.Stop.TheVariants as stop
-use Rattle.texml_expand.specs.State.{nothing, loads, Tex, Done, Ended, Reading, ◌>>=◌, give, fault_at}
-use Rattle.texml_expand.specs.Contract.{Local, Quiet, Reads, Outside, IsFaultAt, stop_after}
+use Rattle.texml_expand.specs.State.{nothing, loads, Tex, Answer, Done, Ended, Reading, chain, added, ◌>>=◌, give, fault_at}
+use Rattle.texml_expand.specs.Contract.{Silent, Local, Quiet, Reads, Outside, IsFaultAt, stop_after}
 use Rattle.texml_expand.specs.Held.{Held, place_of, state_of, Sound, Kept, Progress, IsAtLimit, Owns, SameFiles, ok_at}
 use Rattle.texml_expand.specs.Doing.{Gets, Runs}
-use Rattle.texml_expand.specs.Spending.{Spends}
+use Rattle.texml_expand.specs.Spending.{Spent, Spends}
 use Rattle.texml_expand.proofs.Meeting.{silent_fails_not}
 use Rattle.texml_expand.proofs.Fronts.{kept_itself}
 use Rattle.texml_expand.proofs.Running.{limit_as, told_on, runs_then, runs_stop, runs_local, runs_now, runs_fault, runs_out, gets_runs, files_same, files_stopped}
-use Rattle.texml_expand.proofs.Spending.{spends_same, spends_as, spends_stop, spends_then}
+use Rattle.texml_expand.proofs.Spending.{spent_same, spent_err, spent_chain, spent_done, spends_same, spends_as, spends_stop, spends_then}
 use Rattle.texml_expand.proofs.Sequence.{quiet_silent, quiet_then, quiet_stops}
 use Rattle.texml_expand.proofs.Taking.{quiet_fault}
 
@@ -72,3 +73,41 @@ pub gets_at : {A B : Type 0} (at : A → B) (x : Reading B) (r : Result A Stop) 
     → Owns f.shelf old → Gets x (ok_at at r) old new f f
 gets_at at x (Ok v) old new f h kept limit keeps progress files owns = gets_local x (Ok (at v)) old new f h kept tt keeps progress files owns
 gets_at {A = A} {B = B} at x (Err e) old new f h kept limit keeps progress files owns = gets_local x (Err e) old new f h kept (limit_as A B e new limit) tt progress files owns
+
+-- What calls read where files tell what they have
+
+pub record Told {A : Type 0} (x : Answer A) (r : Result A Stop) (old new : Held) (f g : Outside) : Type 0 where
+  pub quiet : Quiet x r (state_of g.shelf new)
+  pub spent : AreLittle old.input.sources → Spent r f.shelf g.shelf old.input.sources new.input.sources (added x)
+
+pub told_of : {A : Type 0} (x : Reading A) (r : Result A Stop) (old new : Held) (f g : Outside) → Gets x r old new f g → IsTrue f.shelf.tells → Told (x (state_of f.shelf old)) r old new f g
+told_of x r old new f g d told = record { quiet = d.reads told; spent = d.spends told }
+
+pub gets_told : {A : Type 0} (x : Reading A) (r : Result A Stop) (old new : Held) (f g : Outside) → (IsTrue f.shelf.tells → Told (x (state_of f.shelf old)) r old new f g) → Runs r old new f g → Gets x r old new f g
+gets_told x r old new f g t d = gets_by x r old new f g (λ told. (t told).quiet) (λ told. (t told).spent) d
+
+pub told_as : {A : Type 0} (x y : Answer A) (r : Result A Stop) (old new : Held) (f g : Outside) → y ≡ x → Told x r old new f g → Told y r old new f g
+told_as x y r old new f g e t = subst (λ z. Told z r old new f g) (sym e) t
+
+pub told_then : {A B : Type 0} (x : Answer A) (k : A → Reading B) (v : A) (r : Result B Stop) (old mid new : Held) (f g h : Outside) → Told x (Ok v) old mid f g → Told (k v (state_of g.shelf mid)) r mid new g h → Told (chain x k) r old new f h
+told_then x k v r old mid new f g h t u = record {
+  quiet = quiet_then x k v (state_of g.shelf mid) r (state_of h.shelf new) t.quiet u.quiet;
+  spent = λ little.
+      spent_done x k v (state_of g.shelf mid) (loads t.quiet.0) r f.shelf g.shelf h.shelf old.input.sources mid.input.sources new.input.sources t.quiet.1 (t.spent little) (λ small. u.spent small);
+}
+
+pub told_stop : {A B : Type 0} (x : Answer A) (k : A → Reading B) (e : Stop) (old new : Held) (f g : Outside) → Told x (Err e) old new f g → Told (chain x k) (Err e) old new f g
+told_stop {A = A} {B = B} x k e old new f g t = record {
+  quiet = quiet_stops x k e (state_of g.shelf new) (state_of g.shelf new) t.quiet;
+  spent = λ little. spent_chain x k (Err e) f.shelf g.shelf old.input.sources new.input.sources (spent_err A B e f.shelf g.shelf old.input.sources new.input.sources (added x) (t.spent little));
+}
+
+-- no file is asked
+pub told_local : {A : Type 0} (x : Answer A) (r : Result A Stop) (old new : Held) (f : Outside) → Silent x r (state_of f.shelf new) → SameFiles old new → Told x r old new f f
+told_local x r old new f h files = record { quiet = quiet_silent x r (state_of f.shelf new) h; spent = λ little. spent_same r f.shelf old.input.sources new.input.sources (added x) files.readers little }
+
+pub told_out : {A : Type 0} (x : Answer A) (e : Stop) (old new : Held) (f : Outside) → e ≡ stop.NoMemory → SameFiles old new → Told x (Err e) old new f f
+told_out x e old new f short files = record {
+  quiet = subst (λ (s : Stop). Quiet x (Err s) (state_of f.shelf new)) (sym short) tt;
+  spent = λ little. spent_same (Err e) f.shelf old.input.sources new.input.sources (added x) files.readers little;
+}

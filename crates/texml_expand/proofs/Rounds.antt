@@ -8,7 +8,7 @@ use Rattle.texml_base.specs.Outside.{Shelf}
 use Rattle.texml_input.specs.Held.{Plain}
 use Rattle.texml_input.specs.Next.{Taken}
 use Rattle.texml_expand.specs.declared.variables.Index.{Index}
-use Rattle.texml_expand.specs.State.{Answer, Done, Ended, Unfinished, Gains, Reading, chain, after, ◌⊕◌, ◌>>=◌}
+use Rattle.texml_expand.specs.State.{Answer, Done, Ended, Unfinished, Reading, chain, ◌>>=◌}
 use Rattle.texml_expand.specs.Calls.{Expandable, Input, Gift}
 use Rattle.texml_expand.specs.declared.engine.expanding.Gift.{Gift as GiftCode}
 use Rattle.texml_expand.specs.Quantities.{Looked, read_index, next_looked}
@@ -27,19 +27,9 @@ use Rattle.texml_expand.proofs.Including.{lawful_file_name, lawful_opened}
 use Rattle.texml_expand.proofs.Levels.{lawful_given}
 use Rattle.texml_expand.proofs.Doing.{Did, does_of, did_of, did_as, did_then, did_stop, did_silent, did_gets, did_now, does_stop}
 use Rattle.texml_expand.proofs.Fronts.{begun_kept}
-use Rattle.texml_expand.proofs.Spending.{plus_assoc, spends_same}
+use Rattle.texml_expand.proofs.Spending.{chain_after, spends_same}
 
 -- one reading, and what follows two of them
-after_after : {A : Type 0} (g h : Gains) (x : Answer A) → after g (after h x) ≡ after (g ⊕ h) x
-after_after g h (Done a s more) = ap (λ m. Done a s m) (sym (plus_assoc g h more))
-after_after g h (Ended e more) = ap (λ m. Ended e m) (sym (plus_assoc g h more))
-after_after g h (Unfinished more) = ap (λ m. Unfinished m) (sym (plus_assoc g h more))
-
-chain_after : {A B : Type 0} (g : Gains) (x : Answer A) (k : A → Reading B) → chain (after g x) k ≡ after g (chain x k)
-chain_after g (Done a s more) k = sym (after_after g more (k a s))
-chain_after g (Ended e more) k = refl
-chain_after g (Unfinished more) k = refl
-
 chain_chain : {A B C : Type 0} (x : Answer A) (f : A → Reading B) (k : B → Reading C) → chain (chain x f) k ≡ chain x (λ v. f v >>= k)
 chain_chain (Done a s gains) f k = chain_after gains (f a s) k
 chain_chain (Ended e gains) f k = refl

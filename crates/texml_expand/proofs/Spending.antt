@@ -197,13 +197,24 @@ added_after gains (Done v s more) = refl
 added_after gains (Ended e more) = refl
 added_after gains (Unfinished more) = refl
 
+-- one reading, and what follows two of them
+pub after_after : {A : Type 0} (g h : Gains) (x : Answer A) → after g (after h x) ≡ after (g ⊕ h) x
+after_after g h (Done a s more) = ap (λ m. Done a s m) (sym (plus_assoc g h more))
+after_after g h (Ended e more) = ap (λ m. Ended e m) (sym (plus_assoc g h more))
+after_after g h (Unfinished more) = ap (λ m. Unfinished m) (sym (plus_assoc g h more))
+
+pub chain_after : {A B : Type 0} (g : Gains) (x : Answer A) (k : A → Reading B) → chain (after g x) k ≡ after g (chain x k)
+chain_after g (Done a s more) k = sym (after_after g more (k a s))
+chain_after g (Ended e more) k = refl
+chain_after g (Unfinished more) k = refl
+
 -- what a first part loads and opens, the whole does
-bytes_chain : {A B : Type 0} (x : Answer A) (k : A → Reading B) → bytes_in (added x) ≤ bytes_in (added (chain x k))
+pub bytes_chain : {A B : Type 0} (x : Answer A) (k : A → Reading B) → bytes_in (added x) ≤ bytes_in (added (chain x k))
 bytes_chain (Done v s gains) k = omega (arith, ap bytes_in (added_after gains (k v s)), bytes_plus gains (added (k v s)))
 bytes_chain (Ended e gains) k = omega arith
 bytes_chain (Unfinished gains) k = omega arith
 
-opened_chain : {A B : Type 0} (x : Answer A) (k : A → Reading B) → length (added x).opened ≤ length (added (chain x k)).opened
+pub opened_chain : {A B : Type 0} (x : Answer A) (k : A → Reading B) → length (added x).opened ≤ length (added (chain x k)).opened
 opened_chain (Done v s gains) k = omega (arith, ap (λ (g : Gains). length g.opened) (added_after gains (k v s)), opened_plus gains (added (k v s)))
 opened_chain (Ended e gains) k = omega arith
 opened_chain (Unfinished gains) k = omega arith
