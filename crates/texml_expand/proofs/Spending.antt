@@ -173,6 +173,21 @@ spent_at {A = A} {B = B} at (Err e) s t a b g p = spent_err A B e s t a b g p
 pub spent_little : {A : Type 0} (v : A) (s t : Shelf) (a b : List Source) (g : Gains) → Spent (Ok v) s t a b g → AreLittle b
 spent_little v s t a b g p = subst (λ x. AreLittleIf x b) p.may p.little
 
+-- a call that was well, behind which another one fails
+pub spent_fails : {A B : Type 0} (v : A) (e : Stop) (s t : Shelf) (a b : List Source) (g : Gains) → Spent (Ok v) s t a b g → Spent {A = B} (Err e) s t a b g
+spent_fails {B = B} v e s t a b g p = record {
+  loaded = p.loaded;
+  opened = p.opened;
+  breaks = p.breaks;
+  may = subst (MayBreak {A = B} (Err e)) (sym p.may) (not_broken (Err e));
+  within = p.within;
+  files = p.files;
+  given = p.given;
+  total = p.total;
+  balance = p.balance;
+  little = p.little;
+}
+
 -- a call, and what follows it
 pub spent_then : {A B : Type 0} (v : A) (r : Result B Stop) (s t u : Shelf) (a b c : List Source) (g h : Gains) → Spent (Ok v) s t a b g → (AreLittle b → Spent r t u b c h) → Spent r s u a c (g ⊕ h)
 spent_then v r s t u a b c g h p next =

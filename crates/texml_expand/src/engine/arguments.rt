@@ -7,7 +7,7 @@ ghost use Rattle.texml_scope.specs.Numbers.{meaning_at, MacroWithin};
 ghost use Rattle.texml_match.specs.Shape.{ShapeWithin, shape_at, is_empty};
 ghost use Rattle.texml_match.specs.Arguments.{reading, argument as spec_argument};
 ghost use Rattle.texml_expand.specs.declared.feeding.Verdict.TheVariants.{TooShort};
-ghost use Rattle.texml_expand.specs.Feeding.{FeedsTold, FedBy};
+ghost use Rattle.texml_expand.specs.Feeding.{FeedsTold, FedSpends, FedBy};
 ghost use Rattle.texml_expand.specs.Least.{inner_token as spec_inner_token};
 ghost use Rattle.texml_expand.specs.Absorb.{absorb as spec_absorb, absorb_expanded as spec_absorb_expanded};
 ghost use Rattle.texml_expand.specs.Least.{by_least};
@@ -158,6 +158,7 @@ impl Engine {
         requires owns { Owns (F.shelf files.old) self.old }
         requires short { self.old.stop ≡ None → (texts : Table) → D.judge feeder.old texts [] ≡ TooShort }
         ensures feeds { self.old.stop ≡ None → FeedsTold (D.judge feeder.old) (state_of (F.shelf files.old) self.old) (F.shelf files.old) result self.new.names (state_of (F.shelf files.new) self.new) }
+        ensures spends { self.old.stop ≡ None → FedSpends (D.judge feeder.old) (state_of (F.shelf files.old) self.old) result (F.shelf files.old) (F.shelf files.new) self.old self.new }
         ensures lower { self.old.stop ≡ None → IfOk result (λ v. FedBy (D.judge feeder.old) v (F.shelf files.old) self.old (F.shelf files.new) self.new) }
         ensures stops { self.old.stop ≡ None → Stops result (outside (F.shelf files.old) (F.faults files.old) (T.faults tell.old) (T.loan tell.old)) (outside (F.shelf files.new) (F.faults files.new) (T.faults tell.new) (T.loan tell.new)) self.new.stop }
         ensures progress { Progress self.old self.new }
@@ -446,6 +447,7 @@ impl Engine {
         requires owns { Owns (F.shelf files.old) self.old }
         requires short { (texts : Table) → D.judge feeder.old texts [] ≡ TooShort }
         ensures feeds { FeedsTold (D.judge feeder.old) (state_of (F.shelf files.old) self.old) (F.shelf files.old) result self.new.names (state_of (F.shelf files.new) self.new) }
+        ensures spends { FedSpends (D.judge feeder.old) (state_of (F.shelf files.old) self.old) result (F.shelf files.old) (F.shelf files.new) self.old self.new }
         ensures runs { Runs result self.old self.new (files_at (F.shelf files.old) (F.faults files.old)) (files_at (F.shelf files.new) (F.faults files.new)) }
         ensures lower { IfOk result (λ v. FedBy (D.judge feeder.old) v (F.shelf files.old) self.old (F.shelf files.new) self.new) }
     {
