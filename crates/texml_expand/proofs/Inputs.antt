@@ -1,5 +1,5 @@
 -- What an engine is behind a call of its input.
-use Rattle.std.proofs.Common.{◌≡◌, ◌&&◌, ℕ, Bool, true, false, if◌then◌else◌, IsTrue, List, [], ◌∷◌, length, Option, None, Some, IfSome, Result, Ok, Err, refl, sym, ap, ◌∙◌, subst, arith}
+use Rattle.std.proofs.Common.{◌≡◌, ◌&&◌, ℕ, zero, suc, Bool, true, false, if◌then◌else◌, IsTrue, List, [], length, Option, None, Some, IfSome, Result, Ok, Err, refl, sym, ap, ◌∙◌, subst, arith}
 use Rattle.std.specs.Option.{option_map}
 use Rattle.texml_base.specs.Rising.{Rose}
 use Rattle.texml_base.specs.Outside.{Shelf}
@@ -16,7 +16,7 @@ use Rattle.texml_input.specs.declared.fault.InputFault.{InputFault}
 use Rattle.texml_input.specs.declared.fault.InputFault.TheVariants as fault
 use Rattle.texml_expand.specs.declared.stop.Stop.{Stop}
 use Rattle.texml_expand.specs.declared.stop.Stop.TheVariants as stop
-use Rattle.texml_expand.specs.State.{Done, loads, bytes_in, added}
+use Rattle.texml_expand.specs.State.{Done, some_bytes, loads, bytes_in, added}
 use Rattle.texml_expand.specs.Expand.{take}
 use Rattle.texml_expand.specs.Contract.{IsFaultAt, ReadsBecause, TellsBecause, files_at}
 use Rattle.texml_expand.specs.Held.{Held, place_of, state_of, Sound, Progress, IsAtLimit, Owns, Holding, read_at}
@@ -43,8 +43,9 @@ module _ (h : Held) (names : Table) (input : HeldInput) (a b : Shelf) (reads rea
   abbrev all : Given
   all = next (cats_of (world_of h.scope)) (end_of (world_of h.scope)) (rest_at h.names a h.input.sources) h.input.place
 
-  one_size : (n : ℕ) → bytes_in (loads (n ∷ [])) ≡ n
-  one_size n = omega arith
+  one_size : (n : ℕ) → bytes_in (loads (some_bytes n)) ≡ n
+  one_size zero = refl
+  one_size (suc n) = omega arith
 
   -- taking a token loads what the rest loads for it
   take_bytes : bytes_in (added (take (state_of a h))) ≡ bytes_of all

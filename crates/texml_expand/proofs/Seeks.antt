@@ -9,7 +9,7 @@ use Rattle.texml_cond.specs.Skipping.{skip}
 use Rattle.texml_input.specs.Rest.{Item, Tok, Frozen, Text, item_size, size}
 use Rattle.texml_input.specs.Next.{next}
 use Rattle.texml_input.specs.Codes.{cats_of, end_of}
-use Rattle.texml_expand.specs.State.{State, Tex, room, nothing, loads, Answer, Done, Ended, Unfinished, Reading, fault_at, after, chain}
+use Rattle.texml_expand.specs.State.{State, Tex, room, nothing, Answer, Done, Ended, Unfinished, Reading, fault_at, after, chain}
 use Rattle.texml_expand.specs.Take.{take_given, means}
 use Rattle.texml_expand.specs.Least.{inside, inner_token}
 use Rattle.texml_expand.specs.Branches.{Sought, Met, Ends, Chooses, Forbidden, Passes, meets}
@@ -31,11 +31,11 @@ no_items : (items : List (Item Token)) → size items ≤ 0 → items ≡ []
 no_items [] le = refl
 no_items (x ∷ items) le = absurd (omega (arith, le, size-cons x items, some_item x))
 
-ends_here : (s : State) → s.rest ≡ [] → inner_token s ≡ Ended (Tex (fault_at FILE_ENDED [] s.place)) (loads (0 ∷ []))
+ends_here : (s : State) → s.rest ≡ [] → inner_token s ≡ Ended (Tex (fault_at FILE_ENDED [] s.place)) nothing
 ends_here s e = ap (λ r. chain (take_given (next (cats_of s.world) (end_of s.world) r s.place) s) inside) e
 
-nothing_left : (s : State) → room s ≤ 0 → skipped s ≡ Ended (Tex (fault_at FILE_ENDED [] s.place)) (loads (0 ∷ []))
-nothing_left s le = by_least_cut (λ list. reached (skip (map (means s.world) list))) s (Tex (fault_at FILE_ENDED [] s.place)) (loads (0 ∷ [])) (ends_here s (no_items s.rest (omega (arith, le)))) refl
+nothing_left : (s : State) → room s ≤ 0 → skipped s ≡ Ended (Tex (fault_at FILE_ENDED [] s.place)) nothing
+nothing_left s le = by_least_cut (λ list. reached (skip (map (means s.world) list))) s (Tex (fault_at FILE_ENDED [] s.place)) nothing (ends_here s (no_items s.rest (omega (arith, le)))) refl
 
 -- Each number of words that is no less than the room gives the same
 

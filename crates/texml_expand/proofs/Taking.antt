@@ -1,5 +1,5 @@
 -- What taking a token is, by what the rest gives.
-use Rattle.std.proofs.Common.{◌≡◌, ◌&&◌, ℕ, Bool, true, false, List, [], ◌∷◌, Option, Some, None, IfSome, Result, Ok, Err, refl, sym, ap, ◌∙◌, subst}
+use Rattle.std.proofs.Common.{◌≡◌, ◌&&◌, ℕ, Bool, true, false, List, [], Option, Some, None, IfSome, Result, Ok, Err, refl, sym, ap, ◌∙◌, subst}
 use Rattle.std.specs.Option.{option_map}
 use Rattle.texml_token.specs.Token.{Token}
 use Rattle.texml_token.specs.Numbers.{Table}
@@ -14,7 +14,7 @@ use Rattle.texml_input.specs.declared.fault.InputFault.TheVariants as fault
 use Rattle.texml_expand.specs.Held.{read_at, placed}
 use Rattle.texml_expand.specs.declared.stop.Stop.{Stop}
 use Rattle.texml_expand.specs.declared.stop.Stop.TheVariants as stop
-use Rattle.texml_expand.specs.State.{State, Answer, Done, Ended, Tex, nothing, loads, added, fault_at}
+use Rattle.texml_expand.specs.State.{State, Answer, Done, Ended, Tex, nothing, some_bytes, loads, added, fault_at}
 use Rattle.texml_expand.specs.Take.{take, take_given, take_token}
 use Rattle.texml_expand.specs.Contract.{Silent, Quiet, IsFaultAt}
 use Rattle.texml_expand.proofs.Placing.{given_placed, next_placed}
@@ -31,18 +31,18 @@ module _ (s : State) (main : List ℕ) (at : Place) (here : s.place ≡ placed m
 
   -- no file has ended on the way that may not end there
   pub take_ok : (rest : List (Item Token)) (place : Place) (o : Option Taken) → IsNext found (Ok o) rest place → IfSome o (λ t. (s.absorbing && t.crossed) ≡ false) → (sizes : List ℕ) × (take s ≡ Done o (record s { rest = rest; place = placed main place }) (loads sizes))
-  take_ok rest place (Some t) m whole = (m.0 ∷ [], taken _ m.1 ∙ ap (λ b. take_token b t m.0 (record s { rest = rest; place = placed main place })) whole)
-  take_ok rest place None m whole = (m.0 ∷ [], taken _ m.1 ∙ ap {A = List (Item Token)} (λ r. Done None (record s { rest = r; place = placed main place }) (loads (m.0 ∷ []))) (sym m.2))
+  take_ok rest place (Some t) m whole = (some_bytes m.0, taken _ m.1 ∙ ap (λ b. take_token b t m.0 (record s { rest = rest; place = placed main place })) whole)
+  take_ok rest place None m whole = (some_bytes m.0, taken _ m.1 ∙ ap {A = List (Item Token)} (λ r. Done None (record s { rest = r; place = placed main place }) (loads (some_bytes m.0))) (sym m.2))
 
   -- one has
   pub take_broken : (rest : List (Item Token)) (place : Place) (t : Taken) → IsNext found (Ok (Some t)) rest place → (s.absorbing && t.crossed) ≡ true → (sizes : List ℕ) × (take s ≡ Ended (Tex (fault_at FILE_ENDED [] (placed main place))) (loads sizes))
-  take_broken rest place t m broken = (m.0 ∷ [], taken _ m.1 ∙ ap (λ b. take_token b t m.0 (record s { rest = rest; place = placed main place })) broken)
+  take_broken rest place t m broken = (some_bytes m.0, taken _ m.1 ∙ ap (λ b. take_token b t m.0 (record s { rest = rest; place = placed main place })) broken)
 
   pub take_invalid : (c : ℕ) (rest : List (Item Token)) (place : Place) → IsNext found (Err (fault.Invalid c)) rest place → (sizes : List ℕ) × (take s ≡ Ended (Tex (fault_at INVALID_CHAR [] (placed main place))) (loads sizes))
-  take_invalid c rest place m = (m.0 ∷ [], taken _ m.1)
+  take_invalid c rest place m = (some_bytes m.0, taken _ m.1)
 
   pub take_not_utf8 : (rest : List (Item Token)) (place : Place) → IsNext found (Err fault.NotUtf8) rest place → (sizes : List ℕ) × (take s ≡ Ended (Tex (fault_at NOT_UTF8 [] (placed main place))) (loads sizes))
-  take_not_utf8 rest place m = (m.0 ∷ [], taken _ m.1)
+  take_not_utf8 rest place m = (some_bytes m.0, taken _ m.1)
 
 -- the rest is read with the categories and the end character of the world
 pub next_by : (s : State) (at : Place) (cats : ℕ → ℕ) (end : Option ℕ) (r : Result (Option Taken) InputFault) (rest : List (Item Token)) (place : Place) → cats_of s.world ≡ cats → end_of s.world ≡ end
@@ -72,11 +72,11 @@ quiet_fault a code about place stop.TellFailed s e h = absurd h
 quiet_fault a code about place stop.NoMemory s e h = tt
 
 -- the bytes that a token takes are those that the rest loads for it
-token_added : (b : Bool) (t : Taken) (bytes : ℕ) (s : State) → added (take_token b t bytes s) ≡ loads (bytes ∷ [])
+token_added : (b : Bool) (t : Taken) (bytes : ℕ) (s : State) → added (take_token b t bytes s) ≡ loads (some_bytes bytes)
 token_added true t bytes s = refl
 token_added false t bytes s = refl
 
-pub given_added : (g : Given) (s : State) → added (take_given g s) ≡ loads (bytes_of g ∷ [])
+pub given_added : (g : Given) (s : State) → added (take_given g s) ≡ loads (some_bytes (bytes_of g))
 given_added (Got t rest place bytes) s = token_added (s.absorbing && t.crossed) t bytes (record s { rest = rest; place = place })
 given_added (AtEnd place bytes) s = refl
 given_added (Invalid c place bytes) s = refl

@@ -1,5 +1,5 @@
 -- A state of the engine, and what a reading answers from one.
-use Rattle.std.specs.Prelude.{ℕ, ◌+◌, Bool, List, [], ◌∷◌, ◌++◌, length, sum_by, Option}
+use Rattle.std.specs.Prelude.{ℕ, zero, suc, ◌+◌, Bool, List, [], ◌∷◌, ◌++◌, length, sum_by, Option}
 use Rattle.std.specs.Option.{option_to_list}
 use Rattle.texml_token.specs.Token.{Token}
 use Rattle.texml_token.specs.declared.fault.Fault.{Fault}
@@ -39,8 +39,8 @@ pub data End : Type 0 where
 abbrev pub fault_at : ℕ → List ℕ → Place → Fault
 fault_at code about place = record { code = code; file = place.file; line = place.line; about = about }
 
--- what a reading adds: the records of the expansions that were completed in it; for each token that was taken the bytes of the lines that were loaded for
--- it; and the names of the files that were opened
+-- what a reading adds: the records of the expansions that were completed in it; how many bytes were loaded, for each token for which lines were; and the
+-- names of the files that were opened
 pub record Gains : Type 0 where
   pub records : List Record
   pub loaded : List ℕ
@@ -52,6 +52,11 @@ bytes_in gains = sum_by (λ n. n) gains.loaded
 
 abbrev pub nothing : Gains
 nothing = record { records = []; loaded = []; opened = [] }
+
+-- so many bytes, if there are any
+abbrev pub some_bytes : ℕ → List ℕ
+some_bytes zero = []
+some_bytes (suc n) = suc n ∷ []
 
 -- the bytes alone
 abbrev pub loads : List ℕ → Gains
