@@ -20,6 +20,7 @@ ghost use Rattle.texml_expand.specs.Expand.{level};
 ghost use Rattle.texml_expand.specs.Fronts.{macro_at};
 ghost use Rattle.texml_expand.specs.Matched.{MatchedBy};
 ghost use Rattle.texml_expand.specs.Held.{state_of, world_in, Sound, Kept, Progress, IsAtLimit, ok_at, read_at, ReadWithin, Owns, Holding, SameFiles, Shrinks, Puts};
+ghost use Rattle.texml_expand.specs.Spending.{Spends, SpendsBy};
 ghost use Rattle.texml_expand.specs.Contract.{Local, Reads, AnswersKept, Stops, outside, files_at, stop_after};
 ghost use Rattle.texml_expand.specs.Doing.{Does, Gets, Runs};
 
@@ -62,6 +63,7 @@ impl Engine {
         requires owns { Owns (F.shelf files.old) self.old }
         ensures follows { self.old.stop ≡ None → FollowsTold (hears T.wanting T.heard) (hears_part T.wanting T.part) (F.shelf files.old) (λ n. spec_absorb expanding n (state_of (F.shelf files.old) self.old))
             (ok_at (tokens_at self.new.names) result) (state_of (F.shelf files.new) self.new) tell.old tell.new }
+        ensures spends { self.old.stop ≡ None → SpendsBy (λ n. spec_absorb expanding n (state_of (F.shelf files.old) self.old)) (ok_at (tokens_at self.new.names) result) (F.shelf files.old) (F.shelf files.new) self.old self.new }
         ensures stops { self.old.stop ≡ None → Stops result (outside (F.shelf files.old) (F.faults files.old) (T.faults tell.old) (T.loan tell.old)) (outside (F.shelf files.new) (F.faults files.new) (T.faults tell.new) (T.loan tell.new)) self.new.stop }
         ensures lower { self.old.stop ≡ None → IfOk result (λ list. Shrinks (length list + 1) (F.shelf files.old) self.old (F.shelf files.new) self.new) }
         ensures progress { Progress self.old self.new }
@@ -95,6 +97,7 @@ impl Engine {
         requires sound { self.old.stop ≡ None → Sound self.old }
         requires owns { Owns (F.shelf files.old) self.old }
         ensures reads { self.old.stop ≡ None → Reads (F.shelf files.old) (spec_read_argument (state_of (F.shelf files.old) self.old)) (ok_at (tokens_at self.new.names) result) (state_of (F.shelf files.new) self.new) }
+        ensures spends { self.old.stop ≡ None → Spends (spec_read_argument (state_of (F.shelf files.old) self.old)) (ok_at (tokens_at self.new.names) result) (F.shelf files.old) (F.shelf files.new) self.old self.new }
         ensures stops { self.old.stop ≡ None → Stops result (outside (F.shelf files.old) (F.faults files.old) (T.faults tell.old) (T.loan tell.old)) (outside (F.shelf files.new) (F.faults files.new) (T.faults tell.new) (T.loan tell.new)) self.new.stop }
         ensures lower { self.old.stop ≡ None → IfOk result (λ list. Shrinks (length list) (F.shelf files.old) self.old (F.shelf files.new) self.new) }
         ensures progress { Progress self.old self.new }
@@ -128,6 +131,7 @@ impl Engine {
         requires sound { self.old.stop ≡ None → Sound self.old }
         requires owns { Owns (F.shelf files.old) self.old }
         ensures reads { self.old.stop ≡ None → Reads (F.shelf files.old) (spec_read_optional (state_of (F.shelf files.old) self.old)) (ok_at (option_map (tokens_at self.new.names)) result) (state_of (F.shelf files.new) self.new) }
+        ensures spends { self.old.stop ≡ None → Spends (spec_read_optional (state_of (F.shelf files.old) self.old)) (ok_at (option_map (tokens_at self.new.names)) result) (F.shelf files.old) (F.shelf files.new) self.old self.new }
         ensures stops { self.old.stop ≡ None → Stops result (outside (F.shelf files.old) (F.faults files.old) (T.faults tell.old) (T.loan tell.old)) (outside (F.shelf files.new) (F.faults files.new) (T.faults tell.new) (T.loan tell.new)) self.new.stop }
         ensures lower { self.old.stop ≡ None → IfOk result (λ o. Shrinks (length (unwrap_or o [])) (F.shelf files.old) self.old (F.shelf files.new) self.new) }
         ensures progress { Progress self.old self.new }
@@ -189,6 +193,7 @@ impl Engine {
         requires sound { self.old.stop ≡ None → Sound self.old }
         requires owns { Owns (F.shelf files.old) self.old }
         ensures reads { self.old.stop ≡ None → Reads (F.shelf files.old) (spec_sign code (state_of (F.shelf files.old) self.old)) result (state_of (F.shelf files.new) self.new) }
+        ensures spends { self.old.stop ≡ None → Spends (spec_sign code (state_of (F.shelf files.old) self.old)) result (F.shelf files.old) (F.shelf files.new) self.old self.new }
         ensures lower { self.old.stop ≡ None → OnOk result (Shrinks 0 (F.shelf files.old) self.old (F.shelf files.new) self.new) }
         ensures stops { self.old.stop ≡ None → Stops result (outside (F.shelf files.old) (F.faults files.old) (T.faults tell.old) (T.loan tell.old)) (outside (F.shelf files.new) (F.faults files.new) (T.faults tell.new) (T.loan tell.new)) self.new.stop }
         ensures progress { Progress self.old self.new }

@@ -24,6 +24,7 @@ ghost use Rattle.texml_expand.specs.declared.engine.expanding.TheConstants.{DEEP
 ghost use Rattle.texml_expand.specs.Machine.{machine_rest};
 ghost use Rattle.texml_expand.specs.Scanning.{Turned, MayGive};
 ghost use Rattle.texml_expand.specs.Held.{state_of, world_in, Sound, Kept, Progress, IsAtLimit, ok_at, read_at, ReadWithin, Owns, Holding, SameFiles, Shrinks, Begun};
+ghost use Rattle.texml_expand.specs.Spending.{SpendsBy};
 ghost use Rattle.texml_expand.specs.Contract.{Local, AnswersKept, Stops, outside, files_at, stop_after};
 ghost use Rattle.texml_expand.specs.Hearing.{hears, hears_part, Meets, FollowsTold};
 ghost use Rattle.texml_expand.specs.Doing.{Does, Gets};
@@ -126,6 +127,7 @@ impl Engine {
         requires owns { Owns (F.shelf files.old) self.old }
         ensures follows { self.old.stop ≡ None → FollowsTold (hears T.wanting T.heard) (hears_part T.wanting T.part) (F.shelf files.old) (λ n. spec_fetch n (state_of (F.shelf files.old) self.old))
             (ok_at (option_map (token_at self.new.names)) result) (state_of (F.shelf files.new) self.new) tell.old tell.new }
+        ensures spends { self.old.stop ≡ None → SpendsBy (λ n. spec_fetch n (state_of (F.shelf files.old) self.old)) (ok_at (option_map (token_at self.new.names)) result) (F.shelf files.old) (F.shelf files.new) self.old self.new }
         ensures stops { self.old.stop ≡ None → Stops result (outside (F.shelf files.old) (F.faults files.old) (T.faults tell.old) (T.loan tell.old)) (outside (F.shelf files.new) (F.faults files.new) (T.faults tell.new) (T.loan tell.new)) self.new.stop }
         ensures lower { self.old.stop ≡ None → IfOk result (λ o. Shrinks (length (option_to_list o)) (F.shelf files.old) self.old (F.shelf files.new) self.new) }
         ensures progress { Progress self.old self.new }
@@ -157,6 +159,7 @@ impl Engine {
         requires owns { Owns (F.shelf files.old) self.old }
         ensures follows { self.old.stop ≡ None → FollowsTold (hears T.wanting T.heard) (hears_part T.wanting T.part) (F.shelf files.old) (λ n. spec_look n (state_of (F.shelf files.old) self.old))
             (ok_at (option_map (looked_at_by self.new.names)) result) (state_of (F.shelf files.new) self.new) tell.old tell.new }
+        ensures spends { self.old.stop ≡ None → SpendsBy (λ n. spec_look n (state_of (F.shelf files.old) self.old)) (ok_at (option_map (looked_at_by self.new.names)) result) (F.shelf files.old) (F.shelf files.new) self.old self.new }
         ensures stops { self.old.stop ≡ None → Stops result (outside (F.shelf files.old) (F.faults files.old) (T.faults tell.old) (T.loan tell.old)) (outside (F.shelf files.new) (F.faults files.new) (T.faults tell.new) (T.loan tell.new)) self.new.stop }
         ensures lower { self.old.stop ≡ None → IfOk result (λ o. Shrinks (length (option_to_list o)) (F.shelf files.old) self.old (F.shelf files.new) self.new) }
         ensures progress { Progress self.old self.new }
@@ -193,6 +196,7 @@ impl Engine {
         requires expandable { self.old.stop ≡ None → IsSome (expandable (meaning_of (state_of (F.shelf files.old) self.old).world (token_at self.old.names token))) }
         ensures follows { self.old.stop ≡ None → FollowsTold (hears T.wanting T.heard) (hears_part T.wanting T.part) (F.shelf files.old)
             (λ n. spec_expand_once (token_at self.old.names token) n (state_of (F.shelf files.old) self.old)) result (state_of (F.shelf files.new) self.new) tell.old tell.new }
+        ensures spends { self.old.stop ≡ None → SpendsBy (λ n. spec_expand_once (token_at self.old.names token) n (state_of (F.shelf files.old) self.old)) result (F.shelf files.old) (F.shelf files.new) self.old self.new }
         ensures stops { self.old.stop ≡ None → Stops result (outside (F.shelf files.old) (F.faults files.old) (T.faults tell.old) (T.loan tell.old)) (outside (F.shelf files.new) (F.faults files.new) (T.faults tell.new) (T.loan tell.new)) self.new.stop }
         ensures begins { self.old.stop ≡ None → OnOk result (Begun self.old self.new) }
         ensures progress { Progress self.old self.new }
