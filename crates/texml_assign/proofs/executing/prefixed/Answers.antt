@@ -15,14 +15,14 @@ use Rattle.texml_assign.proofs.executing.prefixed.Goals as goal
 pub returns-in_err-token : goal.returns-in_err-token
 returns-in_err-token g c =
     let i = c.tokens.invariant in let run = i.going.running in let f = c.in_err-token.ensures in let mid = c.fetch.new.self in
-    let s = does_call (hears g.T.Teller.wanting g.T.Teller.heard) (hears_part g.T.Teller.wanting g.T.Teller.part) fetch (option_map (token_at mid.names)) (Err c.in_err-token.field-0.0) c.tokens.engine mid _ _ _ _ (f.follows run) (f.stops run) (f.limit run) tt f.progress f.holds tt in
+    let s = does_call (hears g.T.Teller.wanting g.T.Teller.heard) (hears_part g.T.Teller.wanting g.T.Teller.part) fetch (option_map (token_at mid.names)) (Err c.in_err-token.field-0.0) c.tokens.engine mid _ _ _ _ (f.follows run) (f.spends run) (f.stops run) (f.limit run) tt f.progress f.holds tt in
     let h = goes_stops _ _ prefix_loop prefix_laws _ c.args.first c.tokens.prefixes _ _ _ _ _ _ _ _ _ i.going s in search (rules, h)
 
 pub returns-in-None : goal.returns-in-None
 returns-in-None g c = record {
   does =
       let i = c.tokens.invariant in let run = i.going.running in let f = c.in_ok-token.ensures in let mid = c.fetch.new.self in
-      let s = rw c.in-None.is at (does_call (hears g.T.Teller.wanting g.T.Teller.heard) (hears_part g.T.Teller.wanting g.T.Teller.part) fetch (option_map (token_at mid.names)) _ c.tokens.engine mid _ _ _ _ (f.follows run) (f.stops run) tt (f.keeps run) f.progress f.holds (no_more (f.lower run))) in
+      let s = rw c.in-None.is at (does_call (hears g.T.Teller.wanting g.T.Teller.heard) (hears_part g.T.Teller.wanting g.T.Teller.part) fetch (option_map (token_at mid.names)) _ c.tokens.engine mid _ _ _ _ (f.follows run) (f.spends run) (f.stops run) tt (f.keeps run) f.progress f.holds (no_more (f.lower run))) in
       goes_ends _ _ prefix_loop prefix_laws _ c.args.first c.tokens.prefixes _ _ mid c.bare_fault.new.self _ _ _ _ _ _ _ _ i.going s
       (does_fault _ _ (prefix_loop.end c.tokens.prefixes) (prefix_laws.end c.tokens.prefixes) FILE_ENDED c.bare_fault.result mid c.bare_fault.new.self _ _ s.holds.owns (λ shelf. refl) c.bare_fault.ensures.is c.bare_fault.ensures.kept);
 }
@@ -31,7 +31,7 @@ pub returns-in-Ok-Command : goal.returns-in-Ok-Command
 returns-in-Ok-Command g c = record {
   does =
       let i = c.tokens.invariant in let run = i.going.running in let f = c.in_ok-token.ensures in let mid = c.fetch.new.self in
-      let s = rw c.in-Some.is at (does_call (hears g.T.Teller.wanting g.T.Teller.heard) (hears_part g.T.Teller.wanting g.T.Teller.part) fetch (option_map (token_at mid.names)) _ c.tokens.engine mid _ _ _ _ (f.follows run) (f.stops run) tt (f.keeps run) f.progress f.holds (no_more (f.lower run))) in
+      let s = rw c.in-Some.is at (does_call (hears g.T.Teller.wanting g.T.Teller.heard) (hears_part g.T.Teller.wanting g.T.Teller.part) fetch (option_map (token_at mid.names)) _ c.tokens.engine mid _ _ _ _ (f.follows run) (f.spends run) (f.stops run) tt (f.keeps run) f.progress f.holds (no_more (f.lower run))) in
       let t = token_at mid.names c.in-Some.token in let p = c.tokens.prefixes in
       let v : Prefixes × CommandWord = (p, c.in-Ok-Command.command) in
       goes_over _ _ prefix_loop prefix_laws t v c.args.first p _ _ mid mid _ _ _ _ _ _ _ _ i.going s
@@ -42,7 +42,7 @@ pub returns-in-Ok-Misfit : goal.returns-in-Ok-Misfit
 returns-in-Ok-Misfit g c = record {
   does =
       let i = c.tokens.invariant in let run = i.going.running in let f = c.in_ok-token.ensures in let mid = c.fetch.new.self in
-      let s = rw c.in-Some.is at (does_call (hears g.T.Teller.wanting g.T.Teller.heard) (hears_part g.T.Teller.wanting g.T.Teller.part) fetch (option_map (token_at mid.names)) _ c.tokens.engine mid _ _ _ _ (f.follows run) (f.stops run) tt (f.keeps run) f.progress f.holds (no_more (f.lower run))) in
+      let s = rw c.in-Some.is at (does_call (hears g.T.Teller.wanting g.T.Teller.heard) (hears_part g.T.Teller.wanting g.T.Teller.part) fetch (option_map (token_at mid.names)) _ c.tokens.engine mid _ _ _ _ (f.follows run) (f.spends run) (f.stops run) tt (f.keeps run) f.progress f.holds (no_more (f.lower run))) in
       let t = token_at mid.names c.in-Some.token in let p = c.tokens.prefixes in
       goes_turn_stops _ _ prefix_loop prefix_laws t _ c.args.first p _ _ mid c.bare_fault-in-Ok-Misfit.new.self _ _ _ _ _ _ _ _ i.going s
       (does_fault _ _ (λ s. prefix_turn p t 0 s) (plain_prefix_turn p t) BAD_PREFIX c.bare_fault-in-Ok-Misfit.result mid c.bare_fault-in-Ok-Misfit.new.self _ _ s.holds.owns (rw c.in-Ok-Misfit.field-0-is at c.in-Ok-Misfit.ensures) c.bare_fault-in-Ok-Misfit.ensures.is c.bare_fault-in-Ok-Misfit.ensures.kept);
@@ -52,7 +52,7 @@ pub returns-in-Err : goal.returns-in-Err
 returns-in-Err g c = record {
   does =
       let i = c.tokens.invariant in let run = i.going.running in let f = c.in_ok-token.ensures in let mid = c.fetch.new.self in
-      let s = rw c.in-Some.is at (does_call (hears g.T.Teller.wanting g.T.Teller.heard) (hears_part g.T.Teller.wanting g.T.Teller.part) fetch (option_map (token_at mid.names)) _ c.tokens.engine mid _ _ _ _ (f.follows run) (f.stops run) tt (f.keeps run) f.progress f.holds (no_more (f.lower run))) in
+      let s = rw c.in-Some.is at (does_call (hears g.T.Teller.wanting g.T.Teller.heard) (hears_part g.T.Teller.wanting g.T.Teller.part) fetch (option_map (token_at mid.names)) _ c.tokens.engine mid _ _ _ _ (f.follows run) (f.spends run) (f.stops run) tt (f.keeps run) f.progress f.holds (no_more (f.lower run))) in
       let t = token_at mid.names c.in-Some.token in let p = c.tokens.prefixes in
       goes_turn_stops _ _ prefix_loop prefix_laws t _ c.args.first p _ _ mid c.no_memory.new.self _ _ _ _ _ _ _ _ i.going s
       (does_out _ _ (prefix_loop.turn p t) (prefix_laws.turn p t) c.no_memory.result mid c.no_memory.new.self _ _ s.keeps.sound s.holds.owns c.no_memory.ensures.is c.no_memory.ensures.kept);
@@ -76,7 +76,7 @@ tokens-smaller g c =
 pub rounds-preserved : goal.rounds-preserved
 rounds-preserved g c =
     let i = c.tokens.invariant in let run = i.going.running in let f = c.in_ok-token.ensures in let mid = c.fetch.new.self in
-    let s = rw c.in-Some.is at (does_call (hears g.T.Teller.wanting g.T.Teller.heard) (hears_part g.T.Teller.wanting g.T.Teller.part) fetch (option_map (token_at mid.names)) _ c.tokens.engine mid _ _ _ _ (f.follows run) (f.stops run) tt (f.keeps run) f.progress f.holds (no_more (f.lower run))) in
+    let s = rw c.in-Some.is at (does_call (hears g.T.Teller.wanting g.T.Teller.heard) (hears_part g.T.Teller.wanting g.T.Teller.part) fetch (option_map (token_at mid.names)) _ c.tokens.engine mid _ _ _ _ (f.follows run) (f.spends run) (f.stops run) tt (f.keeps run) f.progress f.holds (no_more (f.lower run))) in
     let t = token_at mid.names c.in-Some.token in let p = c.tokens.prefixes in
     record {
       going = goes_on _ _ prefix_loop prefix_laws t c.args.first p c.in-Ok-Prefixes.more _ _ mid mid _ _ _ _ _ _ _ _ i.going s
@@ -86,7 +86,7 @@ rounds-preserved g c =
 pub tokens-preserved : goal.tokens-preserved
 tokens-preserved g c =
     let i = c.tokens.invariant in let run = i.going.running in let f = c.in_ok-token.ensures in let mid = c.fetch.new.self in
-    let s = rw c.in-Some.is at (does_call (hears g.T.Teller.wanting g.T.Teller.heard) (hears_part g.T.Teller.wanting g.T.Teller.part) fetch (option_map (token_at mid.names)) _ c.tokens.engine mid _ _ _ _ (f.follows run) (f.stops run) tt (f.keeps run) f.progress f.holds (no_more (f.lower run))) in
+    let s = rw c.in-Some.is at (does_call (hears g.T.Teller.wanting g.T.Teller.heard) (hears_part g.T.Teller.wanting g.T.Teller.part) fetch (option_map (token_at mid.names)) _ c.tokens.engine mid _ _ _ _ (f.follows run) (f.spends run) (f.stops run) tt (f.keeps run) f.progress f.holds (no_more (f.lower run))) in
     let t = token_at mid.names c.in-Some.token in let p = c.tokens.prefixes in
     let l = rw c.in-Some.is at (f.lower run) in
     record {

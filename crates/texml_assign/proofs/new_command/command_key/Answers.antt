@@ -16,7 +16,7 @@ pub returns-in_err-list-clause-does : goal.returns-in_err-list-clause-does
 returns-in_err-list-clause-does g c =
     let naming = c.args.naming in let old = c.args.engine.now in let mid = c.read_argument.new.self in let a = c.in_err-list.ensures in let e = c.in_err-list.field-0.0 in let run = c.requires.running in
     let h = does_stop (hears g.T.Teller.wanting g.T.Teller.heard) (hears_part g.T.Teller.wanting g.T.Teller.part) (λ n. read_argument) (λ v n. name_said naming v) (lawful_plain read_argument plain_argument) (λ v. lawful_plain (name_said naming v) (plain_name_said naming v)) e old mid _ _ _ _ c.requires.sound
-    (does_reads _ _ read_argument plain_argument (tokens_at mid.names) (Err e) old mid _ _ _ _ a.tell (a.reads run) (a.stops run) (a.limit run) tt a.progress a.holds tt) in
+    (does_reads _ _ read_argument plain_argument (tokens_at mid.names) (Err e) old mid _ _ _ _ a.tell (a.reads run) (a.spends run) (a.stops run) (a.limit run) tt a.progress a.holds tt) in
     search (rules, h)
 
 pub returns-clause-does : goal.returns-clause-does
@@ -24,7 +24,7 @@ returns-clause-does g c =
     let naming = c.args.naming in let old = c.args.engine.now in let mid = c.read_argument.new.self in let new = c.key_of_name.new.engine in let a = c.in_ok-list.ensures in let run = c.requires.running in
     let v = tokens_at mid.names c.in_ok-list.list in let n = c.key_of_name.ensures in let r = c.key_of_name.result in
     does_then _ _ (λ n. read_argument) (λ v n. name_said naming v) (lawful_plain read_argument plain_argument) (λ v. lawful_plain (name_said naming v) (plain_name_said naming v)) v _ old mid new _ _ _ _ _ _
-    (does_reads _ _ read_argument plain_argument (tokens_at mid.names) (Ok c.in_ok-list.list) old mid _ _ _ _ a.tell (a.reads run) (a.stops run) tt (a.keeps run) a.progress a.holds (no_more (a.lower run)))
+    (does_reads _ _ read_argument plain_argument (tokens_at mid.names) (Ok c.in_ok-list.list) old mid _ _ _ _ a.tell (a.reads run) (a.spends run) (a.stops run) tt (a.keeps run) a.progress a.holds (no_more (a.lower run)))
     (does_judge _ _ (name_said naming v) (plain_name_said naming v) (ok_at (option_map (key_at new.names)) r) mid new _ _ a.holds.owns (subst (λ o. Local (key_of_name naming o) (ok_at (option_map (key_at new.names)) r) mid new) (c.only_token.ensures.is mid.names) n.needs) (kept_of (option_map (key_at new.names)) r new.stop n.kept) (keeps_of (option_map (key_at new.names)) r (Kept mid new) n.keeps) n.is)
 
 pub key_of_name-requires-clause-name : goal.key_of_name-requires-clause-name

@@ -13,7 +13,7 @@ pub returns-in_err-said-clause-does : goal.returns-in_err-said-clause-does
 returns-in_err-said-clause-does g c =
     let old = c.args.engine.now in let mid = c.read_optional.new.self in let a = c.in_err-said.ensures in let e = c.in_err-said.field-0.0 in let run = c.requires.running in
     let h = does_stop (hears g.T.Teller.wanting g.T.Teller.heard) (hears_part g.T.Teller.wanting g.T.Teller.part) (λ n. read_optional) (λ v n. number_said v) (lawful_plain read_optional plain_optional) (λ v. lawful_plain (number_said v) (plain_number_said v)) e old mid _ _ _ _ c.requires.sound
-    (does_reads _ _ read_optional plain_optional (option_map (tokens_at mid.names)) (Err e) old mid _ _ _ _ a.tell (a.reads run) (a.stops run) (a.limit run) tt a.progress a.holds tt) in
+    (does_reads _ _ read_optional plain_optional (option_map (tokens_at mid.names)) (Err e) old mid _ _ _ _ a.tell (a.reads run) (a.spends run) (a.stops run) (a.limit run) tt a.progress a.holds tt) in
     search (rules, h)
 
 pub returns-clause-does : goal.returns-clause-does
@@ -21,5 +21,5 @@ returns-clause-does g c =
     let old = c.args.engine.now in let mid = c.read_optional.new.self in let new = c.number_said.new.engine in let a = c.in_ok-said.ensures in let run = c.requires.running in
     let v = option_map (tokens_at mid.names) c.in_ok-said.said in let n = c.number_said.ensures in let r = c.number_said.result in
     does_then _ _ (λ n. read_optional) (λ v n. number_said v) (lawful_plain read_optional plain_optional) (λ v. lawful_plain (number_said v) (plain_number_said v)) v _ old mid new _ _ _ _ _ _
-    (does_reads _ _ read_optional plain_optional (option_map (tokens_at mid.names)) (Ok c.in_ok-said.said) old mid _ _ _ _ a.tell (a.reads run) (a.stops run) tt (a.keeps run) a.progress a.holds (no_more (a.lower run)))
+    (does_reads _ _ read_optional plain_optional (option_map (tokens_at mid.names)) (Ok c.in_ok-said.said) old mid _ _ _ _ a.tell (a.reads run) (a.spends run) (a.stops run) tt (a.keeps run) a.progress a.holds (no_more (a.lower run)))
     (does_judge _ _ (number_said v) (plain_number_said v) r mid new _ _ a.holds.owns n.needs n.kept n.keeps n.is)

@@ -13,7 +13,7 @@ pub returns-in_err-code : goal.returns-in_err-code
 returns-in_err-code g c = record {
   does =
       let run = c.requires.running in let f = c.in_err-code.ensures in let mid = c.read_index.new.self in
-      let s = does_call (hears g.T.Teller.wanting g.T.Teller.heard) (hears_part g.T.Teller.wanting g.T.Teller.part) (read_index Character) (λ z. z) (Err c.in_err-code.field-0.0) c.args.engine.now mid _ _ _ _ (f.follows run) (f.stops run) (f.limit run) tt f.progress f.holds tt in
+      let s = does_call (hears g.T.Teller.wanting g.T.Teller.heard) (hears_part g.T.Teller.wanting g.T.Teller.part) (read_index Character) (λ z. z) (Err c.in_err-code.field-0.0) c.args.engine.now mid _ _ _ _ (f.follows run) (f.spends run) (f.stops run) (f.limit run) tt f.progress f.holds tt in
       let h = does_stop _ _ (read_index Character) (λ z n. give (char_text z)) (lawful_index_of Character) (λ z. lawful_plain (give (char_text z)) (plain_give _)) _ _ _ _ _ _ _ c.requires.sound s in search (rules, h);
 }
 
@@ -21,7 +21,7 @@ pub returns : goal.returns
 returns g c = record {
   does =
       let run = c.requires.running in let f = c.in_ok-code.ensures in let mid = c.read_index.new.self in let z = c.in_ok-code.code in
-      let s = does_call (hears g.T.Teller.wanting g.T.Teller.heard) (hears_part g.T.Teller.wanting g.T.Teller.part) (read_index Character) (λ z. z) (Ok z) c.args.engine.now mid _ _ _ _ (f.follows run) (f.stops run) tt (f.keeps run) f.progress f.holds (f.lower run) in
+      let s = does_call (hears g.T.Teller.wanting g.T.Teller.heard) (hears_part g.T.Teller.wanting g.T.Teller.part) (read_index Character) (λ z. z) (Ok z) c.args.engine.now mid _ _ _ _ (f.follows run) (f.spends run) (f.stops run) tt (f.keeps run) f.progress f.holds (f.lower run) in
       rw c.char_of.ensures
       (does_then _ _ (read_index Character) (λ z n. give (char_text z)) (lawful_index_of Character) (λ z. lawful_plain (give (char_text z)) (plain_give _)) z (Ok (char_text z)) _ mid mid _ _ _ _ _ _ s
       (does_now _ _ (give (char_text z)) (plain_give _) (char_text z) mid _ _ s.keeps.sound s.holds.owns s.stops.kept (λ shelf. refl)));
