@@ -268,7 +268,7 @@ module _ {V : Type 0} (first judge : Judge V) (old now : Held) (f g : Outside) (
   -- memory is refused where a token is fed
   pub out_pays : (mid new : Held) (h : Outside) (t : Token) (e : Stop) → Gets inner_token (Ok t) now mid g h → new ≡ record mid { stop = Some stop.NoMemory } → FedSpends first (state_of f.shelf old) (Err e) f.shelf h.shelf old new
   out_pays mid new h t e d is =
-      behind_pays (Err {A = Token} e) (Err e) new h (λ a b gains p. spent_err Token V e g.shelf h.shelf a b gains p)
+      behind_pays {A = Token} (Err e) (Err e) new h (λ a b gains p. spent_err Token V e g.shelf h.shelf a b gains p)
       (λ told small. subst (λ (k : Held). Spent (Err e) g.shelf h.shelf now.input.sources k.input.sources (added (inner_token (state_of g.shelf now)))) (sym is)
       (spent_fails t e g.shelf h.shelf now.input.sources mid.input.sources (added (inner_token (state_of g.shelf now))) (d.spends told small)))
 
@@ -277,7 +277,7 @@ module _ {V : Type 0} (first judge : Judge V) (old now new : Held) (f g h : Outs
   feeding_stops texts last told = feeds_cut first judge old now f g i e (state_of h.shelf new) texts last told (d.reads (told_on f.shelf g.shelf old now i.runs.holds told))
 
   pub stops_pays : FedSpends first (state_of f.shelf old) (Err e) f.shelf h.shelf old new
-  stops_pays = behind_pays first judge old now f g i (Err {A = Token} e) (Err e) new h (λ a b gains p. spent_err Token V e g.shelf h.shelf a b gains p) d.spends
+  stops_pays = behind_pays first judge old now f g i {A = Token} (Err e) (Err e) new h (λ a b gains p. spent_err Token V e g.shelf h.shelf a b gains p) d.spends
 
   pub stops_runs : Runs {A = V} (Err e) old new f h
   stops_runs = runs_then tt (Err e) old now new f g h i.runs (runs_stop e now new g h (gets_runs inner_token (Err e) now new g h d))

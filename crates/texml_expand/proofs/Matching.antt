@@ -68,7 +68,7 @@ module _ (shape : Shape TokenCode) (old : Held) (f : Outside) where
     reads = reads;
     wants = whole [] ∙ wants_by old.names shape.prefix shape.delimiters shape.long some;
     on = λ more. sym (whole more);
-    goes = λ r new h d. gets_as (by_least (decides_by old.names m)) (read_by reader) r old new f h (ap (λ (e : List Token → Verdict (List (List Token))). by_least e (state_of f.shelf old)) (λ i list. decided_by (whole list i))) d;
+    goes = λ r new h d. gets_as (by_least (decides_by old.names m)) (read_by reader) r old new f h (sym (ap (λ (e : List Token → Verdict (List (List Token))). by_least e (state_of f.shelf old)) (λ i list. decided_by (whole list i)))) d;
   }
 
   -- the next token, and what more decide behind it

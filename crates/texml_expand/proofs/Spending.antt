@@ -1,6 +1,6 @@
 -- What files gave in calls that go together.
 use Rattle.std.proofs.Common.{◌≡◌, ◌+◌, ◌*◌, ◌≤◌, ℕ, Bool, true, false, if◌then◌else◌, IsTrue, List, [], ◌∷◌, ◌++◌, length, length-append, sum_by, append_assoc, append-nil, Result, Ok, Err, refl, sym, ap, ◌∙◌, subst, arith}
-use Rattle.std.proofs.lemmas.List.Sums.{sum_by-append}
+use Rattle.std.proofs.lemmas.List.Sums.{sum_by-append, sum_by-cons}
 use Rattle.texml_base.specs.Rising.{add_up}
 use Rattle.texml_base.specs.Outside.{Shelf}
 use Rattle.texml_text.specs.Reader.{Reader, fresh_reader, block}
@@ -14,14 +14,14 @@ use Rattle.texml_expand.specs.Spending.{MayBreak, AreLittleIf, Spent, Spends}
 
 -- Files that are the same
 
-ahead_by : (s : List Source) → ahead_of s ≡ sum_by (λ r. length r.held) (readers_of s)
+abbrev held_by : Reader → ℕ
+held_by r = length r.held
+
+ahead_by : (s : List Source) → ahead_of s ≡ sum_by held_by (readers_of s)
 ahead_by [] = refl
 ahead_by (Plain t ∷ s) = ahead_by s
 ahead_by (Marked t ∷ s) = ahead_by s
-ahead_by (File f ∷ s) = let h = ahead_by s in omega (arith, sum_by-cons f.reader (readers_of s))
-  where
-    sum_by-cons : (r : Reader) (rs : List Reader) → sum_by (λ r. length r.held) (r ∷ rs) ≡ length r.held + sum_by (λ r. length r.held) rs
-    sum_by-cons r rs = sum_by-append (λ r. length r.held) (r ∷ []) rs
+ahead_by (File f ∷ s) = let h = ahead_by s in omega (arith, sum_by-cons held_by f.reader (readers_of s))
 ahead_by (Fence ∷ s) = ahead_by s
 
 ids_by : (s : List Source) → length (ids_of s) ≡ length (readers_of s)
@@ -71,7 +71,7 @@ spent_still r s t a b gains still e h = record {
   files = omega arith;
   given = 0;
   total = still ∙ omega arith;
-  balance = let ahead = ahead_by b ∙ ap (sum_by (λ r. length r.held)) e ∙ sym (ahead_by a) in let ids = ids_by b ∙ ap length e ∙ sym (ids_by a) in omega (arith, ahead, ids);
+  balance = let ahead = ahead_by b ∙ ap (sum_by held_by) e ∙ sym (ahead_by a) in let ids = ids_by b ∙ ap length e ∙ sym (ids_by a) in omega (arith, ahead, ids);
   little = little_same a b e h;
 }
 
@@ -91,7 +91,7 @@ spent_opened r s t a b gains id still e h some = record {
   given = 0;
   total = still ∙ omega arith;
   balance =
-      let ahead = ahead_by b ∙ ap (sum_by (λ r. length r.held)) e ∙ sum_by-append (λ r. length r.held) (fresh_reader id ∷ []) (readers_of a) in
+      let ahead = ahead_by b ∙ ap (sum_by held_by) e ∙ sum_by-cons held_by (fresh_reader id) (readers_of a) in
       let before = ahead_by a in
       let ids = ids_by b ∙ ap length e in
       let was = ids_by a in

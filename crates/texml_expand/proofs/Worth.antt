@@ -201,7 +201,7 @@ module _ {T : Type 0} (hear part : T → Record → T → Type 0) {V W : Type 0}
           follows_stop (λ n. (level n).scan g [] s) (λ n. (level n).scan r [] s) (λ n. scan_same f g r same n [] s) e (state_of j.shelf new) x y (d.follows told);
       spends = λ told little.
           let s = state_of i.shelf old in
-          let k = spends_as (λ n. (level n).scan g [] s) (λ n. (level n).scan r [] s) (λ n. scan_same f g r same n [] s) (Err {A = W} e) i.shelf j.shelf old new d.spends told little in
+          let k = spends_as (λ n. (level n).scan g [] s) (λ n. (level n).scan r [] s) (λ n. scan_same f g r same n [] s) {B = W} (Err e) i.shelf j.shelf old new d.spends told little in
           record { answer = k.answer; given = k.given; spent = spent_err W V e i.shelf j.shelf old.input.sources new.input.sources (added k.answer) k.spent };
       stops = stops_as W V e i j new.stop d.stops;
       limit = limit_as W V e new d.limit;
