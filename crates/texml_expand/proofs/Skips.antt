@@ -92,7 +92,7 @@ pub record Skips (s : State) (seen : List MeaningCode) (now : State) : Type 0 wh
   pub decide : List Token → Verdict Word
   pub on : (list : List Token) → decide list ≡ reached (skip (meant ++ map (means s.world) list))
 
-pub skips_none : (s : State) → Skips s [] s
+abbrev pub skips_none : (s : State) → Skips s [] s
 skips_none s = record { meant = []; parts = refl; world = refl; decide = λ list. reached (skip (map (means s.world) list)); on = λ list. refl }
 
 module _ (s now : State) (seen : List MeaningCode) (h : Skips s seen now) (fed : skip seen ≡ More) where
@@ -122,7 +122,7 @@ module _ (s now : State) (seen : List MeaningCode) (h : Skips s seen now) (t : T
   on_all list = h.on (t ∷ list) ∙ ap (λ (ms : List Meaning). reached (skip ms)) (sym (append_assoc h.meant (means s.world t ∷ []) (map (means s.world) list)))
 
   -- more is skipped
-  pub skips_more : Skips s (seen ++ m ∷ []) new
+  abbrev pub skips_more : Skips s (seen ++ m ∷ []) new
   skips_more = record { meant = all; parts = all_parts; world = stays; decide = behind_one h.decide t; on = on_all }
 
   verdict : (step : SkipStep) → skip (seen ++ m ∷ []) ≡ step → h.decide (t ∷ []) ≡ reached step
