@@ -1,7 +1,7 @@
 use Rattle.std.proofs.Common.{rules}
 use Rattle.texml_expand.specs.State.{◌>>=◌, give}
 use Rattle.texml_expand.specs.Take.{take}
-use Rattle.texml_expand.specs.Expansion.{needed}
+use Rattle.texml_expand.specs.Quantities.{needed}
 use Rattle.texml_expand.proofs.Getting.{gets_stop}
 use Rattle.texml_expand.proofs.engine.Engine.one_token.Goals as goal
 

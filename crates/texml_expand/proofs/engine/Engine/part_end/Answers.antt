@@ -1,17 +1,12 @@
-use Rattle.std.proofs.Common.{◌≡◌, ◌∙◌, ◌∷◌, [], Ok, refl, sym, ap, rules}
+use Rattle.std.proofs.Common.{◌≡◌, ◌∙◌, ◌∷◌, [], Ok, sym, ap, rules}
 use Rattle.texml_token.specs.Token.{Fixed}
 use Rattle.texml_token.specs.Numbers.{token_at}
-use Rattle.texml_cond.specs.declared.limits.Allow.{Allow}
-use Rattle.texml_cond.specs.declared.limits.Allow.TheVariants.{Go}
+use Rattle.texml_cond.specs.declared.limits.Allow.TheVariants.{Go, Relax}
 use Rattle.texml_cond.specs.Limits.{allowed}
 use Rattle.texml_expand.specs.State.{give}
 use Rattle.texml_expand.specs.Calls.{Puts}
 use Rattle.texml_expand.specs.Conditionals.{none, part_end, word_by, word_comes}
-use Rattle.texml_expand.specs.Contract.{files_at}
-use Rattle.texml_expand.specs.Fronts.{gift_at}
 use Rattle.texml_expand.specs.Held.{Held, state_of}
-use Rattle.texml_expand.proofs.Running.{files_same}
-use Rattle.texml_expand.proofs.Spending.{spends_same}
 use Rattle.texml_expand.proofs.Getting.{gets_as, gets_then, gets_stop, gets_now}
 use Rattle.texml_expand.proofs.engine.Engine.part_end.Goals as goal
 
@@ -36,6 +31,8 @@ returns-in_ok-word_comes-in-Go-clause-gets g c =
 
 pub returns-in-Ok-clause-gets : goal.returns-in-Ok-clause-gets
 returns-in-Ok-clause-gets g c =
-    let h = c.args.self.now in
-    let k = spends_same (part_end (token_at h.names c.args.token) c.args.word (state_of (g.F.Files.shelf c.args.files.now) h)) _ (g.F.Files.shelf c.args.files.now) h h (files_same h h refl) in
-    search (rules, k)
+    let h = c.args.self.now in let t = token_at h.names c.args.token in let s = state_of (g.F.Files.shelf c.args.files.now) h in
+    let relax : allowed h.conditionals c.args.word ≡ Relax = ap (λ (k : Held). allowed k.conditionals c.args.word) (sym c.self.view_is) ∙ sym c.allow.ensures ∙ c.in-Relax.is in
+    rw c.in-Ok.ensures
+    (gets_as (word_by t c.args.word Relax) (part_end t c.args.word) (Ok (Puts (Fixed ∷ t ∷ []))) h h _ _ (ap (λ a. word_by t c.args.word a s) relax)
+    (gets_now (Puts (Fixed ∷ t ∷ [])) h _ c.requires.sound c.requires.running c.requires.owns))
