@@ -1,5 +1,5 @@
 //! A file that is being read line by line.
-ghost use Rattle.std.specs.Prelude.{◌≡◌, ◌≤◌, ◌+◌, [], length, None, IsTrue, IfOk, IfSome, OnOk, true, option_to_list};
+ghost use Rattle.std.specs.Prelude.{◌≡◌, ◌≤◌, ◌+◌, [], length, None, IsTrue, IfOk, IfSome, OnOk, OnErr, true, false, option_to_list};
 ghost use Rattle.texml_base.specs.Outside.{in_use};
 ghost use Rattle.texml_token.specs.Numbers.{Extends, Numbered, TokenWithin};
 ghost use Rattle.texml_text.specs.File.{character};
@@ -120,6 +120,7 @@ impl OpenFile {
         ensures touches { Touches (F.shelf files.old) (F.shelf files.new) self.old.reader.id }
         ensures spends { IsTrue (F.shelf files.old).tells → Spends (F.shelf files.old) (F.shelf files.new) (length self.old.reader.held) (load_bytes result (rows_of (F.shelf files.old) self.old)) (length self.new.reader.held) }
         ensures little { length self.old.reader.held ≤ block → LoadsLittle result self.new.reader.held }
+        ensures broken { OnErr result (self.new.ended ≡ false) }
         ensures lower { IfOk result (λ found. LoadFalls found (file_room (F.shelf files.old) self.old) (file_room (F.shelf files.new) self.new)) }
         ensures cause { HasLineCause (F.faults files.old) (F.faults files.new) result }
     {
