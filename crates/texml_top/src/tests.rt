@@ -215,7 +215,8 @@ const MAIN: &[u8] =
 
 const OTHER: &[u8] = b"other \\input main \\endinput last\nlost\n";
 
-// Over two paragraphs the calls are the open, the 17 reads of a byte and the read of the end.
+// Over two paragraphs the calls are the open, the 17 reads of a byte and the read of the end; over the two files three opens, 175 reads
+// of a byte and two of an end.
 #[test]
 fn each_call_on_files_may_fail(rt: HostRuntime) -> Result<(), Fail> {
     let alloc = rt.alloc();

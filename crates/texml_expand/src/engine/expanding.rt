@@ -178,10 +178,11 @@ impl Engine {
     ///
     /// # Errors
     ///
-    /// `Tex` with fault 25 where 400 expansions are open, or conditionals too deep in skipped text; of arguments with fault 5
+    /// `Tex` with fault 25 where 400 expansions or 100 files are open, or conditionals too deep in skipped text; of arguments with fault 5
     /// at a token that doesn't match the parameter text, 2 at a brace that ends a group which hasn't begun, and 3 at a `\par`
     /// that may not stand there; 4 where a text ends too early, 15 at an invalid character, 12 at a word of a conditional that
-    /// isn't open, 13 where something else stands before `\endcsname`, and those of `read_int` and `read_dimen`. `Limit` where
+    /// isn't open, 13 where something else stands before `\endcsname` or in the name of a file, 19 where there is no file of its
+    /// name, and those of `read_int` and `read_dimen`. `Limit` where
     /// one expansion too many would begin. `ReadFailed` and `TellFailed` only where the count of faults of `files` or `tell`
     /// rose in this call, `NoMemory` where memory was refused, and the stop that is kept.
     pub fn expand_once<F: Files, T: Teller>(
