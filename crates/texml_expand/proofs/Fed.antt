@@ -254,7 +254,7 @@ module _ {V : Type 0} (first judge : Judge V) (old now : Held) (f g : Outside) (
   -- what was read with one more token
   behind_pays : {A : Type 0} (r : Result A Stop) (e : Result V Stop) (new : Held) (h : Outside) → ((a b : List Source) (gains : Gains) → Spent r g.shelf h.shelf a b gains → Spent e g.shelf h.shelf a b gains)
       → Spends (inner_token (state_of g.shelf now)) r g.shelf h.shelf now new → FedSpends first (state_of f.shelf old) e f.shelf h.shelf old new
-  behind_pays r e new h as spends told little =
+  behind_pays r e new h lift spends told little =
       let sizes = (i.fed told).sizes in
       let one = added (inner_token (state_of g.shelf now)) in
       record {
@@ -262,7 +262,7 @@ module _ {V : Type 0} (first judge : Judge V) (old now : Held) (f g : Outside) (
         fed = Behind now.names i.seen (state_of g.shelf now) (seen_now told) short_now refl;
         spent =
             spent_then tt e f.shelf g.shelf h.shelf old.input.sources now.input.sources new.input.sources (loads sizes) one (i.pays told little)
-            (λ small. as now.input.sources new.input.sources one (spends (told_on f.shelf g.shelf old now i.runs.holds told) small));
+            (λ small. lift now.input.sources new.input.sources one (spends (told_on f.shelf g.shelf old now i.runs.holds told) small));
       }
 
   -- memory is refused where a token is fed

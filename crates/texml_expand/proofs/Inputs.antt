@@ -6,7 +6,7 @@ use Rattle.texml_base.specs.Outside.{Shelf}
 use Rattle.texml_token.specs.Numbers.{Table, Extends, Numbered}
 use Rattle.texml_token.specs.declared.fault_code.TheConstants.{FILE_ENDED, INVALID_CHAR, NOT_UTF8}
 use Rattle.texml_scope.specs.Shown.{world_of}
-use Rattle.texml_input.specs.Next.{Given, bytes_of, next}
+use Rattle.texml_input.specs.Next.{Taken, Given, bytes_of, next}
 use Rattle.texml_input.specs.Codes.{cats_of, end_of}
 use Rattle.texml_input.specs.Held.{Held as HeldInput, rest_at, aside_of, SourcesWithin, AreLittle, front_size}
 use Rattle.texml_input.specs.Keeping.{Holds}
@@ -125,7 +125,7 @@ module _ (h : Held) (names : Table) (input : HeldInput) (a b : Shelf) (reads rea
   invalid_gets c e new n bad is same loaded little =
       gets_by take (Err e) h new (files_at a reads) (files_at b reads')
       (λ told. quiet_fault (take (state_of a h)) INVALID_CHAR [] (place_of mid) e (state_of b new) (take_invalid (state_of a h) h.main h.input.place refl c (rest_at names b input.sources) input.place (next_in (Err (fault.Invalid c)) n told)) bad)
-      (next_spends (Err (fault.Invalid c)) false (Err e) new (ap (λ (h : Held). h.input) is) (not_broken (Err e)) (λ l. l) refl loaded little)
+      (next_spends (Err (fault.Invalid c)) false (Err e) new (ap (λ (h : Held). h.input) is) (not_broken {A = Option Taken} (Err e)) (λ l. l) refl loaded little)
       (fault_runs INVALID_CHAR [] e new bad is same)
 
   pub not_utf8_gets : (e : Stop) (new : Held) → Next (Err fault.NotUtf8) → IsFaultAt NOT_UTF8 [] (place_of mid) e → new ≡ record mid { stop = Some e } → reads' ≡ reads
@@ -133,7 +133,7 @@ module _ (h : Held) (names : Table) (input : HeldInput) (a b : Shelf) (reads rea
   not_utf8_gets e new n bad is same loaded little =
       gets_by take (Err e) h new (files_at a reads) (files_at b reads')
       (λ told. quiet_fault (take (state_of a h)) NOT_UTF8 [] (place_of mid) e (state_of b new) (take_not_utf8 (state_of a h) h.main h.input.place refl (rest_at names b input.sources) input.place (next_in (Err fault.NotUtf8) n told)) bad)
-      (next_spends (Err fault.NotUtf8) false (Err e) new (ap (λ (h : Held). h.input) is) (not_broken (Err e)) (λ l. l) refl loaded little)
+      (next_spends (Err fault.NotUtf8) false (Err e) new (ap (λ (h : Held). h.input) is) (not_broken {A = Option Taken} (Err e)) (λ l. l) refl loaded little)
       (fault_runs NOT_UTF8 [] e new bad is same)
 
   -- a file has ended before a token, and may not end there
@@ -142,7 +142,7 @@ module _ (h : Held) (names : Table) (input : HeldInput) (a b : Shelf) (reads rea
   broken_gets r e new n broken bad is same loaded little =
       gets_by take (Err e) h new (files_at a reads) (files_at b reads')
       (λ told. quiet_fault (take (state_of a h)) FILE_ENDED [] (place_of mid) e (state_of b new) (take_broken (state_of a h) h.main h.input.place refl (rest_at names b input.sources) input.place (read_at names r) (next_in (Ok (Some r)) n told) broken) bad)
-      (next_spends (Ok (Some r)) false (Err e) new (ap (λ (h : Held). h.input) is) (not_broken (Err e)) (λ l. l) refl loaded little)
+      (next_spends (Ok (Some r)) false (Err e) new (ap (λ (h : Held). h.input) is) (not_broken {A = Option Taken} (Err e)) (λ l. l) refl loaded little)
       (fault_runs FILE_ENDED [] e new bad is same)
 
   -- the same of what it stands for

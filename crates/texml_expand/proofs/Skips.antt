@@ -92,7 +92,7 @@ pub record Skips (s : State) (seen : List MeaningCode) (now : State) : Type 0 wh
   pub decide : List Token → Verdict Word
   pub on : (list : List Token) → decide list ≡ reached (skip (meant ++ map (means s.world) list))
 
-pub skips_none : (s : State) → Skips s [] s
+abbrev pub skips_none : (s : State) → Skips s [] s
 skips_none s = record { meant = []; parts = refl; world = refl; decide = λ list. reached (skip (map (means s.world) list)); on = λ list. refl }
 
 module _ (s now : State) (seen : List MeaningCode) (h : Skips s seen now) (fed : skip seen ≡ More) where
@@ -104,25 +104,25 @@ module _ (s now : State) (seen : List MeaningCode) (h : Skips s seen now) (fed :
   skips_next = by_least_is h.decide now (ap decides short)
 
 module _ (s now : State) (seen : List MeaningCode) (h : Skips s seen now) (t : Token) (new : State) (gains : Gains) (e : inner_token now ≡ Done t new gains) (m : MeaningCode) (means_so : part_of (means new.world t) ≡ part_of m) where
-  stays : new.world ≡ s.world
+  pub stays : new.world ≡ s.world
   stays = leads_at (λ y u. u.world ≡ now.world) (inner_token now) t new gains e (inner_world now) ∙ h.world
 
-  all : List Meaning
+  pub all : List Meaning
   all = h.meant ++ means s.world t ∷ []
 
-  all_parts : map part_of all ≡ map part_of (seen ++ m ∷ [])
+  pub all_parts : map part_of all ≡ map part_of (seen ++ m ∷ [])
   unfolding all
   all_parts =
       map-append part_of h.meant (means s.world t ∷ [])
       ∙ ap₂ (λ a p. a ++ p ∷ []) h.parts (ap (λ w. part_of (means w t)) (sym stays) ∙ means_so)
       ∙ sym (map-append part_of seen (m ∷ []))
 
-  on_all : (list : List Token) → h.decide (t ∷ list) ≡ reached (skip (all ++ map (means s.world) list))
+  pub on_all : (list : List Token) → h.decide (t ∷ list) ≡ reached (skip (all ++ map (means s.world) list))
   unfolding all
   on_all list = h.on (t ∷ list) ∙ ap (λ (ms : List Meaning). reached (skip ms)) (sym (append_assoc h.meant (means s.world t ∷ []) (map (means s.world) list)))
 
   -- more is skipped
-  pub skips_more : Skips s (seen ++ m ∷ []) new
+  abbrev pub skips_more : Skips s (seen ++ m ∷ []) new
   skips_more = record { meant = all; parts = all_parts; world = stays; decide = behind_one h.decide t; on = on_all }
 
   verdict : (step : SkipStep) → skip (seen ++ m ∷ []) ≡ step → h.decide (t ∷ []) ≡ reached step

@@ -179,7 +179,7 @@ spent_fails {B = B} v e s t a b g p = record {
   loaded = p.loaded;
   opened = p.opened;
   breaks = p.breaks;
-  may = subst (MayBreak {A = B} (Err e)) (sym p.may) (not_broken (Err e));
+  may = subst (MayBreak {A = B} (Err e)) (sym p.may) (not_broken {A = B} (Err e));
   within = p.within;
   files = p.files;
   given = p.given;
