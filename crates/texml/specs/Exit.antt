@@ -7,6 +7,7 @@ use Rattle.texml_base.specs.Outside.{Shelf, Ink}
 use Rattle.texml_top.specs.Request.{asked}
 use Rattle.texml_top.specs.Outcome.{OfOutcome}
 use Rattle.texml_top.specs.Run.{MayEnd, FilesBlamed, SinkBlamed, FitsWords, TouchesNothing}
+use Rattle.texml_top.specs.Notes.{Noted}
 use Rattle.texml_top.specs.declared.status.Status.{Status}
 use Rattle.texml_top.specs.declared.status.Status.TheVariants as status
 use Rattle.texml.specs.declared.words.WordsFault.{WordsFault}
@@ -24,13 +25,14 @@ exit_code status.WriteFault = 7
 exit_code status.NoMemory = 8
 
 -- What the program sees of the outside: files and how often they failed, what was written and how often that failed, and
--- what was noted.
+-- what was noted and how often that failed.
 pub record Outside : Type 0 where
   pub shelf : Shelf
   pub reads : ℕ
   pub ink : Ink
   pub writes : ℕ
   pub notes : Ink
+  pub note_faults : ℕ
 
 -- the code is that of a status with which a run of these words may end
 pub record ExitsRun (words : List (List ℕ)) (old new : Outside) (code : ℕ) : Type 0 where
@@ -41,12 +43,17 @@ pub record ExitsRun (words : List (List ℕ)) (old new : Outside) (code : ℕ) :
   pub out_cause : SinkBlamed status old.writes new.writes
   pub words_fit : FitsWords (asked words) status
   pub untouched : TouchesNothing (asked words) old.shelf new.shelf old.ink new.ink
-  pub notes : new.notes ≡ old.notes
+  pub notes : Noted status old.notes new.notes old.note_faults new.note_faults
   pub closed : new.shelf.ids ≡ []
 
--- the code is that of this status, and nothing was opened or written
-abbrev pub ExitsAtOnce : Status → Outside → Outside → ℕ → Type 0
-ExitsAtOnce s old new code = (code ≡ exit_code s) × (new ≡ old)
+-- the code is that of this status, which is noted, and nothing was opened or written
+pub record ExitsAtOnce (status : Status) (old new : Outside) (code : ℕ) : Type 0 where
+  pub is : code ≡ exit_code status
+  pub shelf : new.shelf ≡ old.shelf
+  pub reads : new.reads ≡ old.reads
+  pub ink : new.ink ≡ old.ink
+  pub writes : new.writes ≡ old.writes
+  pub notes : Noted status old.notes new.notes old.note_faults new.note_faults
 
 -- what the code is for words that were read, or were not
 abbrev pub ExitsFor : Result (Vec (String Global) Global) WordsFault → Outside → Outside → ℕ → Type 0

@@ -27,7 +27,7 @@ use Rattle.texml_assign.specs.Sets.{begin_kind, end_kind, read_after, keep, keep
 use Rattle.texml_assign.specs.Execute.{row, behind, perform, followed, prefix_word, prefix_turn, prefix_loop, prefixed, execute_prefixed, execute_word, execute_by, execute}
 use Rattle.texml_assign.proofs.Readings.{Lawful, Plain, lawful_plain, lawful_by, lawful_then, plain_by, plain_give, plain_fail, plain_change, plain_if}
 use Rattle.texml_assign.proofs.Looping.{LawfulLoop, lawful_loop}
-pub use Rattle.texml_assign.proofs.Parts.{plain_after_assignment, body_taken, head_taken, key_taken, lawful_absorb, lawful_assigned, lawful_body_said, lawful_body_taken, lawful_defined, lawful_head_taken, lawful_key_taken, lawful_meant, lawful_next_body, lawful_spaces, meant_behind, plain_after_group, plain_assign, plain_begin, plain_behind_equals, plain_behind_sign, plain_behind_space, plain_body_said, plain_by_least, plain_end, plain_key_of, plain_look_ahead, plain_meaning_now, plain_meant_behind, plain_needed, plain_needed_body, plain_next, plain_next_key, plain_parameter_text, plain_space_turn, plain_take, plain_token_or_end, plain_with_token, same_room, space_is, spaces_laws, text_taken}
+pub use Rattle.texml_assign.proofs.Parts.{plain_after_assignment, body_taken, head_taken, key_taken, lawful_absorb, lawful_assigned, lawful_body_said, lawful_body_taken, lawful_defined, lawful_head_taken, lawful_key_taken, lawful_meant, lawful_next_body, lawful_spaces, meant_behind, plain_after_group, plain_assign, plain_begin, plain_behind_equals, plain_behind_sign, plain_behind_space, plain_body_said, plain_by_least, plain_end, plain_key_of, plain_meaning_now, plain_meant_behind, plain_needed, plain_needed_body, plain_next, plain_next_key, plain_parameter_text, plain_space_turn, plain_take, plain_token_or_end, plain_with_token, same_room, space_is, spaces_laws}
 use Rattle.texml_assign.specs.NewIf.{new_if}
 use Rattle.texml_assign.proofs.NewConditionals.{plain_new_if}
 use Rattle.texml_assign.proofs.LetterCases.{lawful_change_case}

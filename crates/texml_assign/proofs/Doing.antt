@@ -8,7 +8,7 @@ use Rattle.texml_expand.specs.declared.stop.Stop.{Stop}
 use Rattle.texml_expand.specs.declared.stop.Stop.TheVariants as stop
 use Rattle.texml_expand.specs.State.{State, nothing, Answer, Done, Ended, Tex, Reading, chain, IsDecided, fault_at}
 use Rattle.texml_expand.specs.Hearing.{Follows, FollowsTold}
-use Rattle.texml_input.specs.Held.{ids_of, fences_of}
+use Rattle.texml_input.specs.Held.{ids_of}
 use Rattle.texml_expand.specs.Contract.{Outside, Stops, Silent, Local, Reads, IsFaultAt, stop_after}
 use Rattle.texml_expand.specs.Held.{Held, state_of, place_of, ok_at, Sound, Kept, Progress, IsAtLimit, Owns, Holding, SameFiles, Shrinks, Puts}
 use Rattle.texml_expand.proofs.Fronts.{kept_then, kept_itself}
@@ -25,10 +25,10 @@ use Rattle.texml_assign.proofs.Looping.{LawfulLoop, LoopOnward, onward_start, lo
 -- Files
 
 pub files_ended : (h i : Held) (s : Option Stop) → i ≡ record h { stop = s } → SameFiles h i
-files_ended h i s e = record { ids = ap (λ (n : Held). ids_of n.input.sources) e; fences = ap (λ (n : Held). fences_of n.input.sources) e }
+files_ended h i s e = record { ids = ap (λ (n : Held). ids_of n.input.sources) e }
 
 pub files_then : {h i j : Held} → SameFiles h i → SameFiles i j → SameFiles h j
-files_then p q = record { ids = q.ids ∙ p.ids; fences = q.fences ∙ p.fences }
+files_then p q = record { ids = q.ids ∙ p.ids }
 
 -- Room
 

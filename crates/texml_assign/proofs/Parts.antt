@@ -1,5 +1,5 @@
 -- The parts of commands: each has one answer, and leaves no more to be read.
-use Rattle.std.proofs.Common.{◌≡◌, ◌+◌, ℕ, zero, suc, Bool, true, false, if◌then◌else◌, List, [], ◌∷◌, length, ◌++◌, ◌≤◌, Option, Some, None, Ok, Err, refl, sym, ap, ◌∙◌, arith}
+use Rattle.std.proofs.Common.{◌≡◌, ◌+◌, ℕ, zero, suc, Bool, true, false, ◌&&◌, if◌then◌else◌, List, [], ◌∷◌, length, ◌++◌, ◌≤◌, Option, Some, None, Ok, Err, refl, sym, ap, ◌∙◌, arith}
 use Rattle.std.specs.List.{sum_by}
 use Rattle.std.proofs.lemmas.List.Sums.{sum_by-cons}
 use Rattle.texml_token.specs.Token.{Token, Active, Named}
@@ -23,13 +23,13 @@ use Rattle.texml_expand.proofs.Items.{size-cons, size_put}
 use Rattle.texml_expand.proofs.Leading.{Leads, leads_chain, leads_weaker, lower_none, lower_then, count, take_leads}
 use Rattle.texml_expand.proofs.Deciding.{any, chain_decided, take_decided}
 use Rattle.texml_assign.specs.Loop.{ByDepth, On, Over}
-use Rattle.texml_expand.specs.Take.{means}
+use Rattle.texml_expand.specs.Take.{take_token, means}
 use Rattle.texml_expand.specs.Arguments.{means_space}
-use Rattle.texml_assign.specs.Operands.{needed, next_token, token_of, token_or_end, key_of, next_key, space_turn, spaces_loop, behind_spaces, is_equals, behind_space, behind_sign, behind_equals, meaning_now, meant, with_token, look_ahead}
+use Rattle.texml_assign.specs.Operands.{needed, next_token, token_of, token_or_end, key_of, next_key, space_turn, spaces_loop, behind_spaces, is_equals, behind_space, behind_sign, behind_equals, meaning_now, meant, with_token}
 use Rattle.texml_assign.specs.Parameters.{Head, text_of, body_of}
 use Rattle.texml_assign.specs.Define.{parameter_text, needed_body, body_said, next_body, macro_of, defined, assigned}
 use Rattle.texml_assign.specs.Sets.{set, assign, begin_kind, ended, end_kind, read_after, keep_token}
-use Rattle.texml_expand.proofs.Lawful.{absorb_lawful}
+use Rattle.texml_expand.proofs.Public.{lawful_absorb_expanded}
 use Rattle.texml_assign.proofs.Rooms.{below_room, keep_room}
 use Rattle.texml_assign.proofs.Readings.{IsUnlimited, unlimited_chain, Lawful, Plain, lawful_calls, lawful_plain, lawful_then, plain_by, plain_give, plain_fail, plain_change, plain_if, plain_then}
 use Rattle.texml_assign.proofs.Looping.{LawfulLoop, lawful_loop}
@@ -40,8 +40,12 @@ same_room s t limit nesting begun less = record { limit = limit; nesting = nesti
 
 -- Tokens
 
+token_unlimited : (b : Bool) (t : Taken) (s : State) → IsUnlimited (take_token b t s)
+token_unlimited true t s = tt
+token_unlimited false t s = tt
+
 given_unlimited : (s : State) (g : Given) → IsUnlimited (take_given g s)
-given_unlimited s (Got t rest place bytes) = tt
+given_unlimited s (Got t rest place bytes) = token_unlimited (s.absorbing && t.crossed) t (record s { rest = rest; place = place })
 given_unlimited s (AtEnd place bytes) = tt
 given_unlimited s (Invalid c place bytes) = tt
 given_unlimited s (NotUtf8 place bytes) = tt
@@ -164,9 +168,6 @@ plain_with_token f limit nesting begun more = record {
       (λ t u low. kept_lower s u (f t u) low (limit t u) (nesting t u) (begun t u) (more t u));
 }
 
-pub plain_look_ahead : Plain look_ahead
-plain_look_ahead = plain_with_token (λ t. back t false) (λ t s. refl) (λ t s. refl) (λ t s. refl) (λ t s. let e = size-cons (Tok t) s.rest in omega (arith, e))
-
 pub plain_after_group : Plain (with_token read_after)
 plain_after_group = plain_with_token read_after (λ t s. refl) (λ t s. refl) (λ t s. refl) (λ t s. let k = keep_room t s.world.groups in omega arith)
 
@@ -235,13 +236,10 @@ plain_by_least decide = record {
 
 pub lawful_absorb : (expanding : Bool) → Lawful (absorb expanding)
 lawful_absorb false = lawful_plain (by_least absorbed) (plain_by_least absorbed)
-lawful_absorb true = lawful_calls _ absorb_lawful
-
-abbrev pub text_taken : Unit {0} → Reading (Head Token)
-text_taken x = by_least text_of
+lawful_absorb true = lawful_calls _ lawful_absorb_expanded
 
 pub plain_parameter_text : Plain parameter_text
-plain_parameter_text = plain_then look_ahead text_taken plain_look_ahead (λ x. plain_by_least text_of)
+plain_parameter_text = plain_by_least text_of
 
 pub plain_needed_body : (o : Option (List Token)) → Plain (needed_body o)
 plain_needed_body None = plain_fail _ _ _

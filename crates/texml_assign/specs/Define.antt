@@ -10,15 +10,13 @@ use Rattle.texml_expand.specs.State.{Reading, ◌>>=◌, ◌>>◌, give, fail, c
 use Rattle.texml_expand.specs.Least.{by_least}
 use Rattle.texml_expand.specs.Absorb.{absorb}
 use Rattle.texml_assign.specs.Loop.{ByDepth}
-use Rattle.texml_assign.specs.Operands.{next_key, look_ahead}
+use Rattle.texml_assign.specs.Operands.{next_key}
 use Rattle.texml_assign.specs.Parameters.{Head, text_of, body_of}
 use Rattle.texml_assign.specs.Sets.{assign}
 
 -- the parameter text that comes next, with the brace behind it
 abbrev pub parameter_text : Reading (Head Token)
-parameter_text = do
-  look_ahead
-  by_least text_of
+parameter_text = by_least text_of
 
 -- the body that tokens are must be one
 abbrev pub needed_body : Option (List Token) → Reading (List Token)

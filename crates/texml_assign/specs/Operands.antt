@@ -7,7 +7,7 @@ use Rattle.texml_scope.specs.Texts.{Key, Meaning}
 use Rattle.texml_scope.specs.declared.values.KeyOf.TheVariants.{Name, Active as ActiveKey}
 use Rattle.texml_input.specs.Next.{Taken}
 use Rattle.texml_expand.specs.State.{State, Reading, ◌>>=◌, give, fail, change}
-use Rattle.texml_expand.specs.Expand.{take, back}
+use Rattle.texml_expand.specs.Expand.{take}
 use Rattle.texml_expand.specs.Arguments.{means_space}
 use Rattle.texml_assign.specs.Loop.{ByDepth, Next, On, Over, Loop, loops}
 use Rattle.texml_expand.specs.Take.{means}
@@ -91,7 +91,3 @@ abbrev pub with_token : (Token → State → State) → Reading (Unit {0})
 with_token f = do
   t ← next_token
   change (f t)
-
--- the next token is looked at, so that the end of a text before it is passed over
-abbrev pub look_ahead : Reading (Unit {0})
-look_ahead = with_token (λ t. back t false)

@@ -12,7 +12,7 @@ ghost use Rattle.texml_assign.specs.Parameters.{head_at};
 ghost use Rattle.texml_assign.specs.TextFeeding.{HeadWithin};
 ghost use Rattle.texml_assign.specs.Define.{parameter_text as spec_parameter_text, body_said as spec_body_said, next_body as spec_next_body, macro_of as spec_macro_of, defined as spec_defined, assigned};
 
-use crate::operands::{look_ahead, meant, next_key};
+use crate::operands::{meant, next_key};
 use crate::parameters::{Head, ParameterText, body_of};
 use crate::sets::assign;
 use std::alloc::{AllocError, Global};
@@ -107,7 +107,6 @@ fn parameter_text<F: Files, T: Teller>(
         (outside (F.shelf files.old) (F.faults files.old) (T.faults tell.old) (T.loan tell.old)) (outside (F.shelf files.new) (F.faults files.new) (T.faults tell.new) (T.loan tell.new)) tell.old tell.new }
     ensures within { IfOk result (HeadWithin (length engine.new.names) 0) }
 {
-    look_ahead(engine, files, tell)?;
     let mut text = ParameterText::new(alloc);
     engine.read_by(files, tell, &mut text)
 }

@@ -11,7 +11,7 @@ ghost use Rattle.texml_expand.specs.Held.{Sound, Kept, ok_at, world_in, Owns, Sh
 ghost use Rattle.texml_expand.specs.Arguments.{means_space as spec_means_space};
 ghost use Rattle.texml_assign.specs.Doing.{Does};
 ghost use Rattle.texml_expand.specs.Take.{means};
-ghost use Rattle.texml_assign.specs.Operands.{token_or_end as spec_token_or_end, next_token as spec_next_token, key_of as spec_key_of, next_key as spec_next_key, behind_spaces as spec_behind_spaces, is_equals as spec_is_equals, behind_space as spec_behind_space, behind_equals as spec_behind_equals, meant as spec_meant, look_ahead as spec_look_ahead};
+ghost use Rattle.texml_assign.specs.Operands.{token_or_end as spec_token_or_end, next_token as spec_next_token, key_of as spec_key_of, next_key as spec_next_key, behind_spaces as spec_behind_spaces, is_equals as spec_is_equals, behind_space as spec_behind_space, behind_equals as spec_behind_equals, meant as spec_meant};
 
 use crate::sets::put_back;
 use std::alloc::AllocError;
@@ -73,26 +73,6 @@ pub fn next_token<F: Files, T: Teller>(
         Some(token) => Ok(token),
         None => Err(engine.bare_fault(fault_code::FILE_ENDED)),
     }
-}
-
-/// Looks at the next token, so that the end of a text before it is passed over.
-///
-/// # Errors
-///
-/// Those of `next_token`.
-pub fn look_ahead<F: Files, T: Teller>(
-    engine: &mut Engine,
-    files: &mut F,
-    tell: &mut T,
-) -> Result<(), Stop>
-    requires running { engine.old.stop ≡ None }
-    requires sound { Sound engine.old }
-    requires owns { Owns (F.shelf files.old) engine.old }
-    ensures does { Does (hears T.wanting T.heard) (hears_part T.wanting T.part) (λ n. spec_look_ahead) result engine.old engine.new
-        (outside (F.shelf files.old) (F.faults files.old) (T.faults tell.old) (T.loan tell.old)) (outside (F.shelf files.new) (F.faults files.new) (T.faults tell.new) (T.loan tell.new)) tell.old tell.new }
-{
-    let token = next_token(engine, files, tell)?;
-    put_back(engine, token)
 }
 
 /// The name or active character that comes next.

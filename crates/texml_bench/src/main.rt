@@ -1,9 +1,10 @@
 //! For measurements by hand: the page of a document of any size that is made of operations, as no text can ask for all of
 //! them yet.
 //!
-//! `texml_bench sections N` has N sections, each with a label and a reference to it, and `texml_bench paragraphs N LENGTH` has
-//! N paragraphs of one text with so many bytes. Any other words give the page of no operations. A document goes the way of
-//! the converter from operations on. It stands on texml_base for the standard streams, and on texml_tree, texml_model,
+//! `texml_bench sections N LENGTH` has N sections, each with a title, a label, a paragraph of LENGTH bytes (none for 0) and one
+//! with a reference to the section, and `texml_bench paragraphs N LENGTH` has N paragraphs of LENGTH bytes. A word that is no
+//! number, or is left out, is 0, and any other first word is `paragraphs`. A document goes the way of the converter from
+//! operations on. It stands on texml_base for the standard streams, and on texml_tree, texml_model,
 //! texml_build, texml_xref and texml_html.
 #![tactic(auto)]
 
@@ -35,7 +36,7 @@ fn read_sample(kind: Option<String>, count: Option<String>, length: Option<Strin
         None => false,
     };
     if sections {
-        Sample::Sections(number(count))
+        Sample::Sections(number(count), number(length))
     } else {
         Sample::Paragraphs(number(count), number(length))
     }

@@ -11,8 +11,8 @@ use texml_tree::{Op, Sets};
 /// What a document has.
 #[derive(Clone, Copy)]
 pub(crate) enum Sample {
-    /// So many sections, each with a label and a reference to it.
-    Sections(usize),
+    /// So many sections, each with a label, a paragraph of so many bytes where they aren't 0, and a reference to the section.
+    Sections(usize, usize),
     /// So many paragraphs of one text with so many bytes.
     Paragraphs(usize, usize),
 }
@@ -26,7 +26,7 @@ pub(crate) fn add_all(
     ensures { OnOk result (tree.new.table ≡ tree.old.table) }
 {
     match sample {
-        Sample::Sections(count) => add_sections(alloc, tree, count),
+        Sample::Sections(count, length) => add_sections(alloc, tree, count, length),
         Sample::Paragraphs(count, length) => add_paragraphs(alloc, tree, count, length),
     }
 }
@@ -41,33 +41,58 @@ fn add_paragraphs(
 {
     let text = Op::Text(text_of(alloc, length)?);
     for _at in 0..count {
-        tree.add(&text)?;
-        tree.add(&Op::CloseIf(PARAGRAPH))?;
+        add_paragraph(tree, &text)?;
     }
     Ok(())
+}
+
+fn add_paragraph(tree: &mut GrowingTree<'_, '_>, text: &Op) -> Result<(), AllocError>
+    ensures { OnOk result (tree.new.table ≡ tree.old.table) }
+{
+    tree.add(text)?;
+    tree.add(&Op::CloseIf(PARAGRAPH))
 }
 
 fn add_sections(
     alloc: Global,
     tree: &mut GrowingTree<'_, '_>,
     count: usize,
+    length: usize,
 ) -> Result<(), AllocError>
     ensures { OnOk result (tree.new.table ≡ tree.old.table) }
 {
+    let text = Op::Text(text_of(alloc, length)?);
     for at in 0..count {
-        add_section(alloc, tree, at)?;
+        begin_section(alloc, tree, at)?;
+        add_body(tree, &text, length)?;
+        end_section(alloc, tree, at)?;
     }
     Ok(())
 }
 
-fn add_section(alloc: Global, tree: &mut GrowingTree<'_, '_>, at: usize) -> Result<(), AllocError>
+fn begin_section(alloc: Global, tree: &mut GrowingTree<'_, '_>, at: usize) -> Result<(), AllocError>
     ensures { OnOk result (tree.new.table ≡ tree.old.table) }
 {
     tree.add(&Op::Open(SECTION, Sets::new(alloc)))?;
     tree.add(&Op::Label(label(alloc, at)?, number(alloc, at)?))?;
     tree.add(&Op::Open(TITLE, Sets::new(alloc)))?;
     tree.add(&Op::Text(number(alloc, at)?))?;
-    tree.add(&Op::Close(TITLE))?;
+    tree.add(&Op::Close(TITLE))
+}
+
+// A paragraph of the text, none where it has no bytes.
+fn add_body(tree: &mut GrowingTree<'_, '_>, text: &Op, length: usize) -> Result<(), AllocError>
+    ensures { OnOk result (tree.new.table ≡ tree.old.table) }
+{
+    if length == 0 {
+        return Ok(());
+    }
+    add_paragraph(tree, text)
+}
+
+fn end_section(alloc: Global, tree: &mut GrowingTree<'_, '_>, at: usize) -> Result<(), AllocError>
+    ensures { OnOk result (tree.new.table ≡ tree.old.table) }
+{
     tree.add(&Op::Ref(label(alloc, at)?))?;
     tree.add(&Op::Close(SECTION))
 }

@@ -40,7 +40,7 @@ past_decided : (next : Reading (Option Taken)) → ((s : State) → IsDecided (n
 past_decided next h None t = tt
 past_decided next h (Some x) t = if_space_decided (is_space t.world x.token) x next h t
 
-spaces_decided : (n : ℕ) (s : State) → IsDecided (past_spaces n s)
+pub spaces_decided : (n : ℕ) (s : State) → IsDecided (past_spaces n s)
 spaces_decided zero s = take_decided s
 spaces_decided (suc n) s = chain_decided (λ o t. Unit {0}) (take s) (past_space (past_spaces n)) (take_decided s) (any (take s)) (λ o t _. past_decided (past_spaces n) (spaces_decided n) o t)
 
@@ -49,18 +49,19 @@ back_size : (t : Token) (frozen : Bool) (rest : List (Item Token)) → size (bac
 back_size t true rest = omega (arith, size-cons (Frozen t) rest)
 back_size t false rest = omega (arith, size-cons (Tok t) rest)
 
-back_lower : (t : Token) (frozen : Bool) (s u : State) → Takes 1 s u → Lower 0 s (back t frozen u)
-back_lower t frozen s u g = record {
-  limit = g.lower.limit;
-  nesting = g.lower.nesting;
-  begun = g.lower.begun;
-  size = λ e. let l = g.lower.size e in omega (arith, l, back_size t frozen u.rest);
-  within = g.lower.within;
+-- a token that was taken goes back
+pub back_lower : (t : Token) (frozen : Bool) (s u : State) → Lower 1 s u → Lower 0 s (back t frozen u)
+back_lower t frozen s u l = record {
+  limit = l.limit;
+  nesting = l.nesting;
+  begun = l.begun;
+  size = λ e. let less = l.size e in omega (arith, less, back_size t frozen u.rest);
+  within = l.within;
 }
 
 if_sign_leads : (b : Bool) (x : Taken) (s t : State) → Takes 1 s t → Leads (λ found u. Lower 0 s u) ((if b then give true else no_sign x) t)
 if_sign_leads true x s t g = lower_less 1 s t g.lower
-if_sign_leads false x s t g = back_lower x.token x.frozen s t g
+if_sign_leads false x s t g = back_lower x.token x.frozen s t g.lower
 
 sign_back_leads : (code : ℕ) (s : State) (o : Option Taken) (t : State) → Takes (count o) s t → Leads (λ found u. Lower 0 s u) (sign_or_back code o t)
 sign_back_leads code s None t g = g.lower

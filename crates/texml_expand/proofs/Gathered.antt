@@ -1,11 +1,11 @@
 -- Gathering tokens that are expanded as they come, step by step.
 use Rattle.std.proofs.Common.{◌≡◌, ◌+◌, ℕ, Bool, true, false, List, [], ◌∷◌, ◌++◌, length, length-append, append-nil, None, Some, Result, Ok, Err, refl, sym, ap, ◌∙◌, subst, arith}
+use Rattle.std.specs.Result.{OnOk}
 use Rattle.std.proofs.lemmas.List.{map-append}
 use Rattle.std.proofs.lemmas.List.Elements.{All-append, All-cons, All-nil}
 use Rattle.texml_token.specs.Token.{Token}
 use Rattle.texml_token.specs.Numbers.{Table, Extends, token_at, tokens_at, TokenWithin, TokensWithin}
 use Rattle.texml_token.specs.declared.tokens.Token.{Token as TokenCode}
-use Rattle.texml_token.specs.declared.fault_code.TheConstants.{FILE_ENDED}
 use Rattle.texml_token.proofs.Translation.{tokens_kept, tokens_more}
 use Rattle.texml_watch.specs.declared.record.Record.{Record}
 use Rattle.texml_input.specs.declared.fault.Read.{Read}
@@ -14,19 +14,20 @@ use Rattle.texml_expand.specs.declared.stop.Stop.TheVariants as stop
 use Rattle.texml_expand.specs.declared.feeding.Verdict.TheVariants.{TooShort, Yields, Refuses}
 use Rattle.texml_expand.specs.declared.gathering.Gathering.{Gathering}
 use Rattle.texml_expand.specs.Calls.{Expandable, Calls}
-use Rattle.texml_expand.specs.State.{State, Answer, Done, Ended, Unfinished, give, chain, after}
+use Rattle.texml_expand.specs.State.{State, Answer, Done, Ended, Unfinished, Reading, give, change, chain, after}
+use Rattle.texml_expand.specs.Least.{decided}
 use Rattle.texml_expand.specs.Front.{Front, Nothing, Plain, Expands, front}
 use Rattle.texml_expand.specs.Expand.{level}
 use Rattle.texml_expand.specs.Fronts.{at_once}
-use Rattle.texml_expand.specs.Gathering.{judged, copies, gather_on, gather_front, gather_expansion}
-use Rattle.texml_expand.specs.Held.{Held, state_of, place_of, world_in, read_at, Sound, Owns, Shrinks, Begun}
-use Rattle.texml_expand.specs.Contract.{Outside, IsFaultAt}
+use Rattle.texml_expand.specs.Gathering.{judged, at_end, left, copies, gather_on, gather_front, gather_expansion}
+use Rattle.texml_expand.specs.Held.{Held, state_of, place_of, world_in, read_at, ok_at, Sound, Kept, Progress, IsAtLimit, Owns, SameFiles, Shrinks, Begun}
+use Rattle.texml_expand.specs.Contract.{Local, Outside, IsFaultAt, stop_after}
 use Rattle.texml_expand.specs.Doing.{Does}
-use Rattle.texml_expand.proofs.Running.{shrinks_none, shrinks_then, shrinks_begun}
+use Rattle.texml_expand.proofs.Running.{limit_as, shrinks_none, shrinks_then, shrinks_begun}
 use Rattle.texml_expand.proofs.Lawful.{Lawful, lawful_give, lawful_then, lawful_expand, lawful_gather, lawful_copy}
 use Rattle.texml_expand.proofs.Total.{total, gather_is}
 use Rattle.texml_expand.proofs.Groups.{pushed}
-use Rattle.texml_expand.proofs.Doing.{Did, does_of, did_of, did_as, did_then, did_stop, did_now, did_fault, did_out, does_then, does_stop, does_now}
+use Rattle.texml_expand.proofs.Doing.{Did, does_of, did_of, did_as, did_then, did_stop, did_now, did_silent, did_fault, did_out, does_then, does_stop, does_now}
 
 pub lawful_at_once : (t : Token) (e : Expandable) (b : Bool) → Lawful (λ c. at_once c t e b)
 lawful_at_once t e true = lawful_copy t
@@ -81,26 +82,56 @@ module _ {T : Type 0} (hear part : T → Record → T → Type 0) (k : Gathering
       → Did hear part (gather_front total k (tokens_at now.names seen) x (state_of m.shelf mid)) r mid new m h b c → Does hear part (λ n. (level n).gather k []) r old new f h a c
   gather_broken x r old now mid new f g m h a b c seen i d e = gather_does r old now new f g h a b c seen i (by_front x r now mid new g m h b c seen d e)
 
-  pub gather_ends : (e : Stop) (old now mid new : Held) (f g m : Outside) (a b : T) (seen : List TokenCode) → Gathers old f a seen now g b → Did hear part (front (state_of g.shelf now)) (Ok Nothing) now mid g m b b → IsFaultAt FILE_ENDED [] (place_of mid) e
-      → new ≡ record mid { stop = Some e } → Does hear part (λ n. (level n).gather k []) (Err e) old new f m a b
-  gather_ends e old now mid new f g m a b seen i d fault is =
-      gather_broken Nothing (Err e) old now mid new f g m m a b b seen i d (did_fault hear part _ FILE_ENDED [] e mid new m b refl fault is d.holds.owns)
+  -- what a call did that takes no files, whose value stands for another one
+  did_at : {A B : Type 0} (at : A → B) (x : Reading B) (r : Result A Stop) (old new : Held) (f : Outside) (a : T) → Local x (ok_at at r) old new → new.stop ≡ stop_after r → IsAtLimit r new → OnOk r (Kept old new) → Progress old new → SameFiles old new → Owns f.shelf old
+      → Did hear part (x (state_of f.shelf old)) (ok_at at r) old new f f a a
+  did_at at x (Ok v) old new f a h kept limit keeps progress files owns = did_silent hear part (x (state_of f.shelf old)) (Ok (at v)) old new f a (h f.shelf) kept limit keeps progress files owns
+  did_at {A = A} {B = B} at x (Err e) old new f a h kept limit keeps progress files owns = did_silent hear part (x (state_of f.shelf old)) (Err e) old new f a (h f.shelf) kept (limit_as A B e new limit) tt progress files owns
+
+  -- at the end of the text
+  pub gather_ends : (r : Result (List TokenCode) Stop) (old now mid new : Held) (f g m : Outside) (a b : T) (seen : List TokenCode) → Gathers old f a seen now g b → Did hear part (front (state_of g.shelf now)) (Ok Nothing) now mid g m b b
+      → Local (decided (at_end k (tokens_at mid.names seen))) (ok_at (tokens_at new.names) r) mid new → new.stop ≡ stop_after r → IsAtLimit r new → OnOk r (Kept mid new) → Progress mid new → SameFiles mid new
+      → Does hear part (λ n. (level n).gather k []) (ok_at (tokens_at new.names) r) old new f m a b
+  gather_ends r old now mid new f g m a b seen i d local kept limit keeps progress files =
+      gather_broken Nothing (ok_at (tokens_at new.names) r) old now mid new f g m m a b b seen i d
+      (did_as hear part _ _ (ok_at (tokens_at new.names) r) mid new m m b b (ap (λ l. decided (at_end k l) (state_of m.shelf mid)) (sym (tokens_kept now.names mid.names d.keeps.grows seen i.within)))
+      (did_at (tokens_at new.names) (decided (at_end k (tokens_at mid.names seen))) r mid new m b local kept limit keeps progress files d.holds.owns))
 
   -- a token by what it decides behind those that were gathered
   decides : (now mid : Held) (m : Outside) (seen : List TokenCode) (t : Read) → Extends now.names mid.names → TokensWithin (length now.names) seen
       → gather_front total k (tokens_at now.names seen) (Plain (read_at mid.names t)) (state_of m.shelf mid)
-      ≡ gather_on total k (tokens_at mid.names (seen ++ t.token ∷ [])) (judged k (world_in mid) (tokens_at mid.names seen) (read_at mid.names t)) (state_of m.shelf mid)
+      ≡ gather_on total k (tokens_at mid.names seen) (token_at mid.names t.token) (judged k (world_in mid) (tokens_at mid.names seen) (read_at mid.names t)) (state_of m.shelf mid)
   decides now mid m seen t names within =
-      ap (λ l. gather_on total k (l ++ token_at mid.names t.token ∷ []) (judged k (world_in mid) l (read_at mid.names t)) (state_of m.shelf mid)) (sym (tokens_kept now.names mid.names names seen within))
-      ∙ ap (λ l. gather_on total k l (judged k (world_in mid) (tokens_at mid.names seen) (read_at mid.names t)) (state_of m.shelf mid)) (sym (pushed mid.names seen t.token))
+      ap (λ l. gather_on total k l (token_at mid.names t.token) (judged k (world_in mid) l (read_at mid.names t)) (state_of m.shelf mid)) (sym (tokens_kept now.names mid.names names seen within))
 
-  pub gather_yields : (list : List Token) (t : Read) (old now mid : Held) (f g m : Outside) (a b : T) (seen : List TokenCode) → Gathers old f a seen now g b → Did hear part (front (state_of g.shelf now)) (Ok (Plain (read_at mid.names t))) now mid g m b b
-      → Yields list ≡ judged k (world_in mid) (tokens_at mid.names seen) (read_at mid.names t) → Does hear part (λ n. (level n).gather k []) (Ok list) old mid f m a b
-  gather_yields list t old now mid f g m a b seen i d is =
-      gather_broken (Plain (read_at mid.names t)) (Ok list) old now mid mid f g m m a b b seen i d
-      (did_as hear part _ _ (Ok list) mid mid m m b b
-      (decides now mid m seen t d.keeps.grows i.within ∙ ap (λ v. gather_on total k (tokens_at mid.names (seen ++ t.token ∷ [])) v (state_of m.shelf mid)) (sym is))
-      (did_now hear part list mid m b d.keeps.sound d.stops.kept d.holds.owns))
+  -- what was gathered is complete, and the token behind it may go back
+  gather_left : (list : List Token) (t : Read) (r : Result (List Token) Stop) (old now mid new : Held) (f g m : Outside) (a b : T) (seen : List TokenCode) → Gathers old f a seen now g b → Did hear part (front (state_of g.shelf now)) (Ok (Plain (read_at mid.names t))) now mid g m b b
+      → Yields list ≡ judged k (world_in mid) (tokens_at mid.names seen) (read_at mid.names t)
+      → Did hear part (chain (change (left k (token_at mid.names t.token)) (state_of m.shelf mid)) (λ _. give list)) r mid new m m b b → Does hear part (λ n. (level n).gather k []) r old new f m a b
+  gather_left list t r old now mid new f g m a b seen i d is e =
+      gather_broken (Plain (read_at mid.names t)) r old now mid new f g m m a b b seen i d
+      (did_as hear part _ _ r mid new m m b b
+      (decides now mid m seen t d.keeps.grows i.within ∙ ap (λ v. gather_on total k (tokens_at mid.names seen) (token_at mid.names t.token) v (state_of m.shelf mid)) (sym is)) e)
+
+  pub gather_unleft : (e : Stop) (list : List Token) (t : Read) (old now mid new : Held) (f g m : Outside) (a b : T) (seen : List TokenCode) → Gathers old f a seen now g b → Did hear part (front (state_of g.shelf now)) (Ok (Plain (read_at mid.names t))) now mid g m b b
+      → Yields list ≡ judged k (world_in mid) (tokens_at mid.names seen) (read_at mid.names t) → Local (change (left k (token_at mid.names t.token))) (Err e) mid new → new.stop ≡ Some e → IsAtLimit {A = Unit {0}} (Err e) new → Progress mid new → SameFiles mid new
+      → Does hear part (λ n. (level n).gather k []) (Err e) old new f m a b
+  gather_unleft e list t old now mid new f g m a b seen i d is local kept limit progress files =
+      gather_left list t (Err e) old now mid new f g m a b seen i d is
+      (did_stop hear part (change (left k (token_at mid.names t.token)) (state_of m.shelf mid)) (λ _. give list) e mid new m m b b
+      (did_silent hear part (change (left k (token_at mid.names t.token)) (state_of m.shelf mid)) (Err e) mid new m b (local m.shelf) kept limit tt progress files d.holds.owns))
+
+  pub gather_yields : (list : List TokenCode) (t : Read) (old now mid new : Held) (f g m : Outside) (a b : T) (seen : List TokenCode) → Gathers old f a seen now g b → Did hear part (front (state_of g.shelf now)) (Ok (Plain (read_at mid.names t))) now mid g m b b
+      → Yields (tokens_at mid.names list) ≡ judged k (world_in mid) (tokens_at mid.names seen) (read_at mid.names t) → Local (change (left k (token_at mid.names t.token))) (Ok tt) mid new → new.stop ≡ None → Kept mid new → Progress mid new → SameFiles mid new
+      → new.names ≡ mid.names → Does hear part (λ n. (level n).gather k []) (Ok (tokens_at new.names list)) old new f m a b
+  gather_yields list t old now mid new f g m a b seen i d is local kept keeps progress files names =
+      let s = state_of m.shelf mid in
+      let x = token_at mid.names t.token in
+      let e = did_silent hear part (change (left k x) s) (Ok tt) mid new m b (local m.shelf) kept tt keeps progress files d.holds.owns in
+      let all = tokens_at mid.names list in
+      let done = gather_left all t (Ok all) old now mid new f g m a b seen i d is
+      (did_then hear part (change (left k x) s) (λ _. give all) tt (Ok all) mid new new m m m b b b e (did_now hear part all new m b keeps.sound kept e.holds.owns)) in
+      subst (λ texts. Does hear part (λ n. (level n).gather k []) (Ok (tokens_at texts list)) old new f m a b) (sym names) done
 
   pub gather_refuses : (code : ℕ) (e : Stop) (t : Read) (old now mid new : Held) (f g m : Outside) (a b : T) (seen : List TokenCode) → Gathers old f a seen now g b
       → Did hear part (front (state_of g.shelf now)) (Ok (Plain (read_at mid.names t))) now mid g m b b → Refuses code ≡ judged k (world_in mid) (tokens_at mid.names seen) (read_at mid.names t) → IsFaultAt code [] (place_of mid) e → new ≡ record mid { stop = Some e }
@@ -108,7 +139,7 @@ module _ {T : Type 0} (hear part : T → Record → T → Type 0) (k : Gathering
   gather_refuses code e t old now mid new f g m a b seen i d is fault e' =
       gather_broken (Plain (read_at mid.names t)) (Err e) old now mid new f g m m a b b seen i d
       (did_as hear part _ _ (Err e) mid new m m b b
-      (decides now mid m seen t d.keeps.grows i.within ∙ ap (λ v. gather_on total k (tokens_at mid.names (seen ++ t.token ∷ [])) v (state_of m.shelf mid)) (sym is))
+      (decides now mid m seen t d.keeps.grows i.within ∙ ap (λ v. gather_on total k (tokens_at mid.names seen) (token_at mid.names t.token) v (state_of m.shelf mid)) (sym is))
       (did_fault hear part _ code [] e mid new m b refl fault e' d.holds.owns))
 
   -- one more token
@@ -122,7 +153,8 @@ module _ {T : Type 0} (hear part : T → Record → T → Type 0) (k : Gathering
     lower = shrinks_then (length seen) 1 (length (seen ++ t.token ∷ [])) f.shelf g.shelf m.shelf old now mid i.lower low (omega (arith, length-append seen (t.token ∷ [])));
     on = λ r z h c y. i.on r z h c (by_front (Plain (read_at mid.names t)) r now mid z g m h b c seen d
         (did_as hear part _ _ r mid z m h b c
-        (decides now mid m seen t d.keeps.grows i.within ∙ ap (λ v. gather_on total k (tokens_at mid.names (seen ++ t.token ∷ [])) v (state_of m.shelf mid)) (sym is)) y));
+        (decides now mid m seen t d.keeps.grows i.within ∙ ap (λ v. gather_on total k (tokens_at mid.names seen) (token_at mid.names t.token) v (state_of m.shelf mid)) (sym is)
+        ∙ ap (λ l. total.gather k l (state_of m.shelf mid)) (sym (pushed mid.names seen t.token))) y));
   }
 
   -- one more expansion

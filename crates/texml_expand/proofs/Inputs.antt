@@ -1,14 +1,14 @@
 -- What an engine is behind a call of its input.
-use Rattle.std.proofs.Common.{◌≡◌, ℕ, IsTrue, List, [], length, Option, None, Some, Result, Ok, Err, refl, sym, ap, ◌∙◌, subst, arith}
+use Rattle.std.proofs.Common.{◌≡◌, ◌&&◌, ℕ, true, false, IsTrue, List, [], length, Option, None, Some, IfSome, Result, Ok, Err, refl, sym, ap, ◌∙◌, subst, arith}
 use Rattle.std.specs.Option.{option_map}
 use Rattle.texml_base.specs.Rising.{Rose}
 use Rattle.texml_base.specs.Outside.{Shelf}
 use Rattle.texml_token.specs.Numbers.{Table, Extends, Numbered}
-use Rattle.texml_token.specs.declared.fault_code.TheConstants.{INVALID_CHAR, NOT_UTF8}
+use Rattle.texml_token.specs.declared.fault_code.TheConstants.{FILE_ENDED, INVALID_CHAR, NOT_UTF8}
 use Rattle.texml_scope.specs.Shown.{world_of}
 use Rattle.texml_input.specs.Next.{next}
 use Rattle.texml_input.specs.Codes.{cats_of, end_of}
-use Rattle.texml_input.specs.Held.{Held as HeldInput, fences_of, rest_at, aside_of, SourcesWithin}
+use Rattle.texml_input.specs.Held.{Held as HeldInput, rest_at, aside_of, SourcesWithin}
 use Rattle.texml_input.specs.Keeping.{Holds}
 use Rattle.texml_input.specs.Answers.{given_at, IsNext}
 use Rattle.texml_input.specs.declared.fault.Read.{Read}
@@ -22,19 +22,19 @@ use Rattle.texml_expand.specs.Contract.{IsFaultAt, ReadsBecause, TellsBecause, f
 use Rattle.texml_expand.specs.Held.{Held, place_of, state_of, Sound, Progress, IsAtLimit, Owns, Holding, read_at}
 use Rattle.texml_expand.specs.Doing.{Gets, Runs}
 use Rattle.texml_expand.proofs.Catcodes.{cats_same, end_same}
-use Rattle.texml_expand.proofs.Taking.{take_ok, take_invalid, take_not_utf8, next_by, given_ok, quiet_fault}
+use Rattle.texml_expand.proofs.Taking.{take_ok, take_broken, take_invalid, take_not_utf8, next_by, given_ok, quiet_fault}
 use Rattle.texml_expand.proofs.Fronts.{taken_kept, taken_state}
 use Rattle.texml_expand.proofs.Progress.{progress_then, progress_stopped}
 use Rattle.texml_expand.proofs.Running.{holding_then, holding_same, files_stopped}
 use Rattle.texml_expand.proofs.Getting.{gets_by}
 
-module _ (h : Held) (names : Table) (input : HeldInput) (a b : Shelf) (reads reads' : ℕ) (owns : Owns a h) (sound : Sound h) (holds : Holds a b h.input.sources input.sources) (fences : fences_of input.sources ≡ fences_of h.input.sources)
+module _ (h : Held) (names : Table) (input : HeldInput) (a b : Shelf) (reads reads' : ℕ) (owns : Owns a h) (sound : Sound h) (holds : Holds a b h.input.sources input.sources)
     (grows : Extends h.names names) where
   abbrev mid : Held
   mid = record h { names = names; input = input }
 
   mid_holds : Holding a b h mid
-  mid_holds = record { owns = record { held = holds.held; all = holds.exact owns.all }; tells = holds.tells; contents = holds.contents; fences = fences }
+  mid_holds = record { owns = record { held = holds.held; all = holds.exact owns.all }; tells = holds.tells; contents = holds.contents }
 
   mid_progress : Progress h mid
   mid_progress = record { names = grows; begun = omega arith; limit = refl; writes = omega arith }
@@ -85,14 +85,27 @@ module _ (h : Held) (names : Table) (input : HeldInput) (a b : Shelf) (reads rea
       (λ told. quiet_fault (take (state_of a h)) NOT_UTF8 [] (place_of mid) e (state_of b new) (take_not_utf8 (state_of a h) h.main h.input.place refl (rest_at names b input.sources) input.place (next_in (Err fault.NotUtf8) n told)) bad)
       (fault_runs NOT_UTF8 [] e new bad is same)
 
+  -- a file has ended before a token, and may not end there
+  pub broken_gets : (r : Read) (e : Stop) (new : Held) → Next (Ok (Some r)) → (h.absorbing && r.crossed) ≡ true → IsFaultAt FILE_ENDED [] (place_of mid) e → new ≡ record mid { stop = Some e } → reads' ≡ reads
+      → Gets take (Err e) h new (files_at a reads) (files_at b reads')
+  broken_gets r e new n broken bad is same =
+      gets_by take (Err e) h new (files_at a reads) (files_at b reads')
+      (λ told. quiet_fault (take (state_of a h)) FILE_ENDED [] (place_of mid) e (state_of b new) (take_broken (state_of a h) h.main h.input.place refl (rest_at names b input.sources) input.place (read_at names r) (next_in (Ok (Some r)) n told) broken) bad)
+      (fault_runs FILE_ENDED [] e new bad is same)
+
+  -- the same of what it stands for
+  whole_at : (o : Option Read) → IfSome o (λ r. (h.absorbing && r.crossed) ≡ false) → IfSome (option_map (read_at names) o) (λ t. (h.absorbing && t.crossed) ≡ false)
+  whole_at None w = tt
+  whole_at (Some r) w = w
+
   -- a token was taken, or nothing is left
-  pub took_gets : (o : Option Read) → Next (Ok o) → (IsTrue a.tells → aside_of b input.sources ≡ aside_of a h.input.sources) → Numbered names → SourcesWithin (length names) input.sources → input.fault ≡ None → h.stop ≡ None → reads' ≡ reads
+  pub took_gets : (o : Option Read) → IfSome o (λ r. (h.absorbing && r.crossed) ≡ false) → Next (Ok o) → (IsTrue a.tells → aside_of b input.sources ≡ aside_of a h.input.sources) → Numbered names → SourcesWithin (length names) input.sources → input.fault ≡ None → h.stop ≡ None → reads' ≡ reads
       → Gets take (Ok (option_map (read_at names) o)) h mid (files_at a reads) (files_at b reads')
-  took_gets o n aside numbered within ready running same =
+  took_gets o whole n aside numbered within ready running same =
       gets_by take (Ok (option_map (read_at names) o)) h mid (files_at a reads) (files_at b reads')
       (λ told.
       let m = subst (λ r. IsNext (next (cats_of (state_of a h).world) (end_of (state_of a h).world) (state_of a h).rest h.input.place) r (rest_at names b input.sources) input.place) (given_ok names o) (next_in (Ok o) n told) in
-      take_ok (state_of a h) h.main h.input.place refl (rest_at names b input.sources) input.place (option_map (read_at names) o) m
+      take_ok (state_of a h) h.main h.input.place refl (rest_at names b input.sources) input.place (option_map (read_at names) o) m (whole_at o whole)
       ∙ ap (λ s. Done (option_map (read_at names) o) s nothing) (taken_state h names input a b sound grows (aside told) holds.contents))
       (record {
         stops = record { kept = running; reads = same; tells = refl; loan = refl };

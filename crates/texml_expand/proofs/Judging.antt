@@ -4,7 +4,7 @@ use Rattle.std.specs.Option.{option_map}
 use Rattle.texml_token.specs.Numbers.{Table, token_at}
 use Rattle.texml_token.specs.declared.tokens.Token.{Token as TokenCode}
 use Rattle.texml_scope.specs.declared.values.MeaningOf.TheVariants.{Undefined, Macro, Builtin}
-use Rattle.texml_scope.specs.declared.builtins.TheConstants.{EXPANDAFTER, NOEXPAND, CSNAME, STRING, NUMBER, ROMANNUMERAL, THE, JOBNAME, ELSE, OR, FI}
+use Rattle.texml_scope.specs.declared.builtins.TheConstants.{EXPANDAFTER, NOEXPAND, CSNAME, STRING, NUMBER, ROMANNUMERAL, THE, JOBNAME, INPUT, ENDINPUT, ELSE, OR, FI}
 use Rattle.texml_cond.specs.declared.limits.Word.TheVariants as words
 use Rattle.texml_scope.specs.Texts.{Meaning}
 use Rattle.texml_scope.specs.Numbers.{MeaningCode, meaning_at}
@@ -33,18 +33,20 @@ module _ (texts : Table) where
 
   builtin_at : (place : ℕ) → expandable_at place ≡ option_map (expandable_by texts) (builtin_in place)
   builtin_at place =
-      if_at (place == EXPANDAFTER) expandables.ExpandAfter (if place == NOEXPAND then Some expandables.NoExpand else if place == CSNAME then Some expandables.CsName else if place == STRING then Some expandables.String else if place == NUMBER then Some expandables.Number else if place == ROMANNUMERAL then Some expandables.RomanNumeral else if place == THE then Some expandables.The else if place == JOBNAME then Some expandables.JobName else if place == ELSE then Some (expandables.PartEnd words.Else) else if place == OR then Some (expandables.PartEnd words.Or) else if place == FI then Some (expandables.PartEnd words.Fi) else option_map expandables.Conditional (test_at place)) _
-      (if_at (place == NOEXPAND) expandables.NoExpand (if place == CSNAME then Some expandables.CsName else if place == STRING then Some expandables.String else if place == NUMBER then Some expandables.Number else if place == ROMANNUMERAL then Some expandables.RomanNumeral else if place == THE then Some expandables.The else if place == JOBNAME then Some expandables.JobName else if place == ELSE then Some (expandables.PartEnd words.Else) else if place == OR then Some (expandables.PartEnd words.Or) else if place == FI then Some (expandables.PartEnd words.Fi) else option_map expandables.Conditional (test_at place)) _
-      (if_at (place == CSNAME) expandables.CsName (if place == STRING then Some expandables.String else if place == NUMBER then Some expandables.Number else if place == ROMANNUMERAL then Some expandables.RomanNumeral else if place == THE then Some expandables.The else if place == JOBNAME then Some expandables.JobName else if place == ELSE then Some (expandables.PartEnd words.Else) else if place == OR then Some (expandables.PartEnd words.Or) else if place == FI then Some (expandables.PartEnd words.Fi) else option_map expandables.Conditional (test_at place)) _
-      (if_at (place == STRING) expandables.String (if place == NUMBER then Some expandables.Number else if place == ROMANNUMERAL then Some expandables.RomanNumeral else if place == THE then Some expandables.The else if place == JOBNAME then Some expandables.JobName else if place == ELSE then Some (expandables.PartEnd words.Else) else if place == OR then Some (expandables.PartEnd words.Or) else if place == FI then Some (expandables.PartEnd words.Fi) else option_map expandables.Conditional (test_at place)) _
-      (if_at (place == NUMBER) expandables.Number (if place == ROMANNUMERAL then Some expandables.RomanNumeral else if place == THE then Some expandables.The else if place == JOBNAME then Some expandables.JobName else if place == ELSE then Some (expandables.PartEnd words.Else) else if place == OR then Some (expandables.PartEnd words.Or) else if place == FI then Some (expandables.PartEnd words.Fi) else option_map expandables.Conditional (test_at place)) _
-      (if_at (place == ROMANNUMERAL) expandables.RomanNumeral (if place == THE then Some expandables.The else if place == JOBNAME then Some expandables.JobName else if place == ELSE then Some (expandables.PartEnd words.Else) else if place == OR then Some (expandables.PartEnd words.Or) else if place == FI then Some (expandables.PartEnd words.Fi) else option_map expandables.Conditional (test_at place)) _
-      (if_at (place == THE) expandables.The (if place == JOBNAME then Some expandables.JobName else if place == ELSE then Some (expandables.PartEnd words.Else) else if place == OR then Some (expandables.PartEnd words.Or) else if place == FI then Some (expandables.PartEnd words.Fi) else option_map expandables.Conditional (test_at place)) _
-      (if_at (place == JOBNAME) expandables.JobName (if place == ELSE then Some (expandables.PartEnd words.Else) else if place == OR then Some (expandables.PartEnd words.Or) else if place == FI then Some (expandables.PartEnd words.Fi) else option_map expandables.Conditional (test_at place)) _
+      if_at (place == EXPANDAFTER) expandables.ExpandAfter (if place == NOEXPAND then Some expandables.NoExpand else if place == CSNAME then Some expandables.CsName else if place == STRING then Some expandables.String else if place == NUMBER then Some expandables.Number else if place == ROMANNUMERAL then Some expandables.RomanNumeral else if place == THE then Some expandables.The else if place == JOBNAME then Some expandables.JobName else if place == INPUT then Some expandables.Input else if place == ENDINPUT then Some expandables.EndInput else if place == ELSE then Some (expandables.PartEnd words.Else) else if place == OR then Some (expandables.PartEnd words.Or) else if place == FI then Some (expandables.PartEnd words.Fi) else option_map expandables.Conditional (test_at place)) _
+      (if_at (place == NOEXPAND) expandables.NoExpand (if place == CSNAME then Some expandables.CsName else if place == STRING then Some expandables.String else if place == NUMBER then Some expandables.Number else if place == ROMANNUMERAL then Some expandables.RomanNumeral else if place == THE then Some expandables.The else if place == JOBNAME then Some expandables.JobName else if place == INPUT then Some expandables.Input else if place == ENDINPUT then Some expandables.EndInput else if place == ELSE then Some (expandables.PartEnd words.Else) else if place == OR then Some (expandables.PartEnd words.Or) else if place == FI then Some (expandables.PartEnd words.Fi) else option_map expandables.Conditional (test_at place)) _
+      (if_at (place == CSNAME) expandables.CsName (if place == STRING then Some expandables.String else if place == NUMBER then Some expandables.Number else if place == ROMANNUMERAL then Some expandables.RomanNumeral else if place == THE then Some expandables.The else if place == JOBNAME then Some expandables.JobName else if place == INPUT then Some expandables.Input else if place == ENDINPUT then Some expandables.EndInput else if place == ELSE then Some (expandables.PartEnd words.Else) else if place == OR then Some (expandables.PartEnd words.Or) else if place == FI then Some (expandables.PartEnd words.Fi) else option_map expandables.Conditional (test_at place)) _
+      (if_at (place == STRING) expandables.String (if place == NUMBER then Some expandables.Number else if place == ROMANNUMERAL then Some expandables.RomanNumeral else if place == THE then Some expandables.The else if place == JOBNAME then Some expandables.JobName else if place == INPUT then Some expandables.Input else if place == ENDINPUT then Some expandables.EndInput else if place == ELSE then Some (expandables.PartEnd words.Else) else if place == OR then Some (expandables.PartEnd words.Or) else if place == FI then Some (expandables.PartEnd words.Fi) else option_map expandables.Conditional (test_at place)) _
+      (if_at (place == NUMBER) expandables.Number (if place == ROMANNUMERAL then Some expandables.RomanNumeral else if place == THE then Some expandables.The else if place == JOBNAME then Some expandables.JobName else if place == INPUT then Some expandables.Input else if place == ENDINPUT then Some expandables.EndInput else if place == ELSE then Some (expandables.PartEnd words.Else) else if place == OR then Some (expandables.PartEnd words.Or) else if place == FI then Some (expandables.PartEnd words.Fi) else option_map expandables.Conditional (test_at place)) _
+      (if_at (place == ROMANNUMERAL) expandables.RomanNumeral (if place == THE then Some expandables.The else if place == JOBNAME then Some expandables.JobName else if place == INPUT then Some expandables.Input else if place == ENDINPUT then Some expandables.EndInput else if place == ELSE then Some (expandables.PartEnd words.Else) else if place == OR then Some (expandables.PartEnd words.Or) else if place == FI then Some (expandables.PartEnd words.Fi) else option_map expandables.Conditional (test_at place)) _
+      (if_at (place == THE) expandables.The (if place == JOBNAME then Some expandables.JobName else if place == INPUT then Some expandables.Input else if place == ENDINPUT then Some expandables.EndInput else if place == ELSE then Some (expandables.PartEnd words.Else) else if place == OR then Some (expandables.PartEnd words.Or) else if place == FI then Some (expandables.PartEnd words.Fi) else option_map expandables.Conditional (test_at place)) _
+      (if_at (place == JOBNAME) expandables.JobName (if place == INPUT then Some expandables.Input else if place == ENDINPUT then Some expandables.EndInput else if place == ELSE then Some (expandables.PartEnd words.Else) else if place == OR then Some (expandables.PartEnd words.Or) else if place == FI then Some (expandables.PartEnd words.Fi) else option_map expandables.Conditional (test_at place)) _
+      (if_at (place == INPUT) expandables.Input (if place == ENDINPUT then Some expandables.EndInput else if place == ELSE then Some (expandables.PartEnd words.Else) else if place == OR then Some (expandables.PartEnd words.Or) else if place == FI then Some (expandables.PartEnd words.Fi) else option_map expandables.Conditional (test_at place)) _
+      (if_at (place == ENDINPUT) expandables.EndInput (if place == ELSE then Some (expandables.PartEnd words.Else) else if place == OR then Some (expandables.PartEnd words.Or) else if place == FI then Some (expandables.PartEnd words.Fi) else option_map expandables.Conditional (test_at place)) _
       (if_at (place == ELSE) (expandables.PartEnd words.Else) (if place == OR then Some (expandables.PartEnd words.Or) else if place == FI then Some (expandables.PartEnd words.Fi) else option_map expandables.Conditional (test_at place)) _
       (if_at (place == OR) (expandables.PartEnd words.Or) (if place == FI then Some (expandables.PartEnd words.Fi) else option_map expandables.Conditional (test_at place)) _
       (if_at (place == FI) (expandables.PartEnd words.Fi) (option_map expandables.Conditional (test_at place)) _
-      (tests_at (test_at place))))))))))))
+      (tests_at (test_at place))))))))))))))
 
   pub by_meaning : (m : Option MeaningCode) → expandable (meant m) ≡ option_map (expandable_by texts) (expandable_in m)
   by_meaning None = refl

@@ -3,7 +3,6 @@ use Rattle.std.proofs.Common.{◌≡◌, ◌+◌, ◌<◌, ◌≤◌, ℕ, Bool,
 use Rattle.texml_token.specs.Token.{Token}
 use Rattle.texml_scan.specs.Grammar.{Remainder}
 use Rattle.texml_expand.specs.State.{State, room, Answer, Reading, chain, IsDecided, give, fail, change}
-use Rattle.texml_expand.specs.declared.gathering.Gathering.TheVariants.{Group}
 use Rattle.texml_expand.specs.Calls.{Expandable, Gathering, Seen, Calls}
 use Rattle.texml_expand.specs.Contract.{Lower, Begins}
 use Rattle.texml_expand.proofs.Leading.{Leads, leads_chain, leads_at, leads_weaker, count, lower_none, lower_then, lower_less, begins_lower}
@@ -142,9 +141,6 @@ lawful_gather g = record {
   falls = λ c f s. f.gather g [] s;
   settles = λ l s h. (h s (lower_none s)).gather g [];
 }
-
-pub absorb_lawful : Lawful (λ c. c.gather Group [])
-absorb_lawful = lawful_gather Group
 
 pub lawful_copy : (t : Token) → Lawful (λ c. c.copy t)
 lawful_copy t = record {

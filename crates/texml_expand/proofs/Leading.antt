@@ -1,10 +1,10 @@
 -- Where a reading leads, and that taking leaves less to be read.
-use Rattle.std.proofs.Common.{◌≡◌, ◌+◌, ◌≤◌, ℕ, length, Option, refl, ◌∙◌, subst, arith, inl, inr, eq-or-lt_of_le}
+use Rattle.std.proofs.Common.{◌≡◌, ◌+◌, ◌≤◌, ℕ, Bool, true, false, ◌&&◌, length, Option, refl, ◌∙◌, subst, arith, inl, inr, eq-or-lt_of_le}
 use Rattle.std.specs.Option.{option_to_list}
-use Rattle.texml_input.specs.Next.{Given, Got, AtEnd, Invalid, NotUtf8, next}
+use Rattle.texml_input.specs.Next.{Taken, Given, Got, AtEnd, Invalid, NotUtf8, next}
 use Rattle.texml_input.specs.Codes.{cats_of, end_of}
 use Rattle.texml_expand.specs.State.{State, Gains, Answer, Done, Ended, Unfinished, Reading, after, chain}
-use Rattle.texml_expand.specs.Take.{take, take_given}
+use Rattle.texml_expand.specs.Take.{take, take_token, take_given}
 use Rattle.texml_expand.specs.Contract.{Lower, Begins}
 use Rattle.texml_expand.proofs.Lower.{next_lower}
 
@@ -68,15 +68,21 @@ begins_lower k m s t u g h = record {
 pub lower_less : (k : ℕ) (s t : State) → Lower k s t → Lower 0 s t
 lower_less k s t l = lower_then k 0 0 s t t l (lower_none t) (omega arith)
 
+-- a token that is taken, unless it may not stand there
+token_leads : (b : Bool) (x : Taken) (s t : State) → Lower 1 s t → Leads (λ o u. Lower (count o) s u) (take_token b x t)
+token_leads true x s t l = tt
+token_leads false x s t l = l
+
 -- the token at the front is gone
 given_leads : (s : State) (g : Given) → next (cats_of s.world) (end_of s.world) s.rest s.place ≡ g → Leads (λ o t. Lower (count o) s t) (take_given g s)
-given_leads s (Got t rest place bytes) e = record {
-  limit = refl;
-  nesting = refl;
-  begun = omega arith;
-  size = λ _. let less = next_lower (cats_of s.world) (end_of s.world) s.rest rest s.place place t bytes e in omega arith;
-  within = λ lt. absurd (omega (arith, lt));
-}
+given_leads s (Got t rest place bytes) e =
+    token_leads (s.absorbing && t.crossed) t s (record s { rest = rest; place = place }) (record {
+      limit = refl;
+      nesting = refl;
+      begun = omega arith;
+      size = λ _. let less = next_lower (cats_of s.world) (end_of s.world) s.rest rest s.place place t bytes e in omega arith;
+      within = λ lt. absurd (omega (arith, lt));
+    })
 given_leads s (AtEnd place bytes) e = record { limit = refl; nesting = refl; begun = omega arith; size = λ _. omega arith; within = λ lt. absurd (omega (arith, lt)) }
 given_leads s (Invalid c place bytes) e = tt
 given_leads s (NotUtf8 place bytes) e = tt

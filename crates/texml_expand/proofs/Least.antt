@@ -1,12 +1,12 @@
 -- Readings by the least number of next tokens: each decides, and leaves less to be read.
-use Rattle.std.proofs.Common.{◌≡◌, ◌+◌, ◌≤◌, ◌<◌, ℕ, zero, suc, Bool, true, false, List, [], ◌∷◌, ◌++◌, if◌then◌else◌, length, length-append, Option, Some, None, refl, sym, ap, ◌∙◌, subst, arith}
+use Rattle.std.proofs.Common.{◌≡◌, ◌+◌, ◌≤◌, ◌<◌, ℕ, zero, suc, Bool, true, false, ◌&&◌, List, [], ◌∷◌, ◌++◌, if◌then◌else◌, length, length-append, Option, Some, None, refl, sym, ap, ◌∙◌, subst, arith}
 use Rattle.texml_token.specs.Token.{Token}
 use Rattle.texml_expand.specs.declared.feeding.Verdict.{Verdict}
 use Rattle.texml_expand.specs.declared.feeding.Verdict.TheVariants.{TooShort, Yields, Refuses}
 use Rattle.texml_input.specs.Next.{Taken, Given, Got, AtEnd, Invalid, NotUtf8, next}
 use Rattle.texml_input.specs.Codes.{cats_of, end_of}
 use Rattle.texml_expand.specs.State.{State, End, room, nothing, Answer, Done, Ended, Unfinished, Reading, after, chain, IsDecided, give, ◌>>=◌}
-use Rattle.texml_expand.specs.Take.{take_given, take}
+use Rattle.texml_expand.specs.Take.{take_token, take_given, take}
 use Rattle.texml_expand.specs.Least.{inside_if, inside, inner_token, next_tokens, least, decides, decided, is_enough, by_tokens, by_least}
 use Rattle.texml_expand.specs.Contract.{Lower}
 use Rattle.texml_expand.proofs.Deciding.{decided_after, any, chain_decided, take_decided}
@@ -51,8 +51,12 @@ takes_then j k m s t u g h le = record { begun = h.begun ∙ g.begun; lower = lo
 pub takes_room : (k : ℕ) (s t : State) → Takes k s t → k ≤ room s
 takes_room k s t g = let l = g.lower.size g.begun in omega arith
 
+token_takes : (b : Bool) (x : Taken) (s t : State) → t.begun ≡ s.begun → Leads (λ o u. Lower (count o) s u) (take_token b x t) → Leads (λ o u. Takes (count o) s u) (take_token b x t)
+token_takes true x s t e l = tt
+token_takes false x s t e l = record { begun = e; lower = l }
+
 given_takes : (s : State) (g : Given) → Leads (λ o t. Lower (count o) s t) (take_given g s) → Leads (λ o t. Takes (count o) s t) (take_given g s)
-given_takes s (Got t rest place bytes) l = record { begun = refl; lower = l }
+given_takes s (Got t rest place bytes) l = token_takes (s.absorbing && t.crossed) t s (record s { rest = rest; place = place }) refl l
 given_takes s (AtEnd place bytes) l = record { begun = refl; lower = l }
 given_takes s (Invalid c place bytes) l = tt
 given_takes s (NotUtf8 place bytes) l = tt

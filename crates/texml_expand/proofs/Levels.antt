@@ -2,12 +2,13 @@
 use Rattle.std.proofs.Common.{◌≡◌, ◌+◌, ◌-◌, ◌<◌, ◌≤◌, ℕ, zero, suc, Bool, true, false, nat_le, if◌then◌else◌, List, [], ◌∷◌, ◌++◌, length, length-append, map, Option, Some, None, refl, ap, ◌∙◌, arith, add-suc, add-zero, inl, inr, eq-or-lt_of_le}
 use Rattle.std.proofs.lemmas.Bool.{leb-false}
 use Rattle.std.specs.Fmt.{signed_decimal}
-use Rattle.texml_token.specs.Token.{Token}
+use Rattle.texml_token.specs.Token.{Token, Char}
 use Rattle.texml_token.specs.declared.fault_code.TheConstants.{DEPTH}
 use Rattle.texml_scan.specs.declared.looks.Look.TheVariants.{End}
 use Rattle.texml_scan.specs.Grammar.{Expanded, Raw, Verdict as Scanned, Wanting, Decided, Faulty, Remainder}
 use Rattle.texml_expand.specs.declared.feeding.Verdict.{Verdict}
 use Rattle.texml_expand.specs.declared.feeding.Verdict.TheVariants.{TooShort, Yields, Refuses}
+use Rattle.texml_expand.specs.declared.gathering.Gathering.TheVariants.{FileName}
 use Rattle.texml_input.specs.Rest.{Item, Tok}
 use Rattle.texml_expand.specs.State.{State, Tex, Limit, nothing, Answer, Done, Ended, chain, IsDecided, fault_at, give}
 use Rattle.texml_expand.specs.Arguments.{called}
@@ -15,11 +16,13 @@ use Rattle.texml_expand.specs.Printed.{printed_tokens, roman_text}
 use Rattle.texml_expand.specs.Quantities.{Looked, next_looked, look, put_last, decided_on, without_end, scan_token, scan_next, scan_on, scan_by, next_internal, the}
 use Rattle.texml_expand.specs.Expansion.{string, job}
 use Rattle.texml_expand.specs.Conditionals.{number}
-use Rattle.texml_expand.specs.Gathering.{judged, gather_on, copies, gather_expansion, gather_front, gather_by, returned, copied, copy_by}
-use Rattle.texml_expand.specs.Expand.{Expandable, Call, ExpandAfter, NoExpand, CsName, String, Number, RomanNumeral, The, JobName, Conditional, PartEnd, Gathering, Seen, Calls, items_of, Front, Nothing, Plain, Expands, front, begin, decimal, roman_numeral, given, finished, finish, expand_by, fetch_front, fetch_by, step, level}
+use Rattle.texml_expand.specs.Least.{decided}
+use Rattle.texml_expand.specs.Gathering.{judged, at_end, left, gather_on, copies, gather_expansion, gather_front, gather_by, returned, copied, copy_by}
+use Rattle.texml_expand.specs.Expand.{Expandable, Call, ExpandAfter, NoExpand, CsName, String, Number, RomanNumeral, The, JobName, Input, EndInput, Conditional, PartEnd, Gathering, Seen, Calls, items_of, Front, Nothing, Plain, Expands, front, begin, decimal, roman_numeral, given, finished, finish, expand_by, fetch_front, fetch_by, step, level}
 use Rattle.texml_expand.specs.Calls.{looks}
 use Rattle.texml_expand.specs.Contract.{Lower, Begins}
-use Rattle.texml_expand.proofs.Calling.{called_leads, called_decided}
+use Rattle.texml_expand.proofs.Calling.{back_lower, called_leads, called_decided}
+use Rattle.texml_expand.proofs.Including.{lawful_include, lawful_end_input}
 use Rattle.texml_expand.proofs.Leading.{Leads, leads_chain, leads_weaker, count, lower_none, lower_then, lower_less, begins_lower}
 use Rattle.texml_expand.proofs.Readings.{Grows, grows_refl, grows_trans, chain_grows}
 use Rattle.texml_expand.proofs.Lawful.{GrowsCalls, Returns, CallsFall, Levels, Lawful, lawful_silent, lawful_give, lawful_then}
@@ -46,6 +49,8 @@ lawful_given t Number = lawful_puts decimal lawful_decimal
 lawful_given t RomanNumeral = lawful_puts roman_numeral lawful_roman_numeral
 lawful_given t The = lawful_puts the lawful_the
 lawful_given t JobName = lawful_puts (λ c. job) lawful_job
+lawful_given t Input = lawful_include
+lawful_given t EndInput = lawful_end_input
 lawful_given t (Conditional test) = lawful_conditional test
 lawful_given t (PartEnd word) = lawful_part_end t word
 
@@ -86,10 +91,10 @@ module _ (c c' : Calls) (g : GrowsCalls c c') where
   pub copy_grows : (t : Token) (s : State) → Grows (copy_by c t s) (copy_by c' t s)
   copy_grows t s = chain_grows (grows_refl (begin s)) (λ _ u. chain_grows (lawful_next_internal.grows c c' g u) (λ q v. grows_refl (copied t q v)))
 
-  gather_on_grows : (k : Gathering) (list : List Token) (v : Verdict (List Token)) (s : State) → Grows (gather_on c k list v s) (gather_on c' k list v s)
-  gather_on_grows k list TooShort s = g.gather k list s
-  gather_on_grows k list (Yields v) s = grows_refl _
-  gather_on_grows k list (Refuses code) s = grows_refl _
+  gather_on_grows : (k : Gathering) (seen : List Token) (x : Token) (v : Verdict (List Token)) (s : State) → Grows (gather_on c k seen x v s) (gather_on c' k seen x v s)
+  gather_on_grows k seen x TooShort s = g.gather k (seen ++ x ∷ []) s
+  gather_on_grows k seen x (Yields v) s = grows_refl _
+  gather_on_grows k seen x (Refuses code) s = grows_refl _
 
   gather_expansion_grows : (k : Gathering) (seen : List Token) (t : Token) (e : Expandable) (b : Bool) (s : State) → Grows (gather_expansion c k seen t e b s) (gather_expansion c' k seen t e b s)
   gather_expansion_grows k seen t e true s = chain_grows (g.copy t s) (λ list u. g.gather k (seen ++ list) u)
@@ -97,7 +102,7 @@ module _ (c c' : Calls) (g : GrowsCalls c c') where
 
   pub gather_front_grows : (k : Gathering) (seen : List Token) (f : Front) (s : State) → Grows (gather_front c k seen f s) (gather_front c' k seen f s)
   gather_front_grows k seen Nothing s = grows_refl _
-  gather_front_grows k seen (Plain t) s = gather_on_grows k (seen ++ t.token ∷ []) (judged k s.world seen t) s
+  gather_front_grows k seen (Plain t) s = gather_on_grows k seen t.token (judged k s.world seen t) s
   gather_front_grows k seen (Expands t e) s = gather_expansion_grows k seen t e (copies k e) s
 
   pub gather_grows : (k : Gathering) (seen : List Token) (s : State) → Grows (gather_by c k seen s) (gather_by c' k seen s)
@@ -157,6 +162,17 @@ levels_grow n m h =
 
 -- less is left to be read
 
+-- a token that ends a name, and goes back
+pub left_lower : (k : Gathering) (x : Token) (s t : State) → Lower 1 s t → Lower 0 s (left k x t)
+left_lower FileName (Char c category) s t h = lower_less 1 s t h
+left_lower FileName x s t h = back_lower x false s t h
+left_lower k x s t h = lower_less 1 s t h
+
+decided_falls : (v : Verdict (List Token)) (s t : State) → Lower 0 s t → Leads (λ w u. Lower 0 s u) (decided v t)
+decided_falls TooShort s t h = tt
+decided_falls (Yields v) s t h = h
+decided_falls (Refuses code) s t h = tt
+
 finished_begins : (s t u : State) (items : List (Item Token)) → Begun s tt t → Lower 0 t u → Begins s (finished items u)
 finished_begins s t u items h l = record {
   limit = l.limit ∙ ap (λ x. x.limit) h.0;
@@ -194,14 +210,15 @@ module _ (c : Calls) (calls : CallsFall c) where
   gather_expansion_leads k seen s tok e false t h =
       leads_chain (λ v u. Begins t u) (λ v u. Lower 0 s u) (c.expand tok e t) (λ v. c.gather k seen) (calls.expand tok e t) (λ v u b. gather_behind_leads k seen s t u h b)
 
-  gather_on_leads : (k : Gathering) (list : List Token) (v : Verdict (List Token)) (s t : State) → Lower 1 s t → Leads (λ v u. Lower 0 s u) (gather_on c k list v t)
-  gather_on_leads k list TooShort s t h = leads_weaker (λ v u. Lower 0 t u) (λ v u. Lower 0 s u) (c.gather k list t) (λ v u l. lower_then 1 0 0 s t u h l (omega arith)) (calls.gather k list t)
-  gather_on_leads k list (Yields v) s t h = lower_less 1 s t h
-  gather_on_leads k list (Refuses code) s t h = tt
+  gather_on_leads : (k : Gathering) (seen : List Token) (x : Token) (v : Verdict (List Token)) (s t : State) → Lower 1 s t → Leads (λ v u. Lower 0 s u) (gather_on c k seen x v t)
+  gather_on_leads k seen x TooShort s t h =
+      leads_weaker (λ v u. Lower 0 t u) (λ v u. Lower 0 s u) (c.gather k (seen ++ x ∷ []) t) (λ v u l. lower_then 1 0 0 s t u h l (omega arith)) (calls.gather k (seen ++ x ∷ []) t)
+  gather_on_leads k seen x (Yields v) s t h = left_lower k x s t h
+  gather_on_leads k seen x (Refuses code) s t h = tt
 
   gather_front_leads : (k : Gathering) (seen : List Token) (s : State) (f : Front) (t : State) → Lower (front_count f) s t → Leads (λ v u. Lower 0 s u) (gather_front c k seen f t)
-  gather_front_leads k seen s Nothing t h = tt
-  gather_front_leads k seen s (Plain x) t h = gather_on_leads k (seen ++ x.token ∷ []) (judged k t.world seen x) s t h
+  gather_front_leads k seen s Nothing t h = decided_falls (at_end k seen) s t h
+  gather_front_leads k seen s (Plain x) t h = gather_on_leads k seen x.token (judged k t.world seen x) s t h
   gather_front_leads k seen s (Expands tok e) t h = gather_expansion_leads k seen s tok e (copies k e) t h
 
   gather_leads : (k : Gathering) (seen : List Token) (s : State) → Leads (λ v t. Lower 0 s t) (gather_by c k seen s)

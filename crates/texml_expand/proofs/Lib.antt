@@ -15,6 +15,8 @@ pub mod Looking
 pub mod Standing
 pub mod Giving
 pub mod Branching
+pub mod Including
+pub mod FileNames
 pub mod Levels
 pub mod Settle
 pub mod Total
@@ -61,3 +63,6 @@ pub mod Placing
 pub mod Running
 pub mod Getting
 pub mod Inputs
+pub mod Apart
+pub mod Peeking
+pub mod Opening

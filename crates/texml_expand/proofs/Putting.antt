@@ -6,7 +6,7 @@ use Rattle.texml_token.specs.Numbers.{token_at, tokens_at, TokenWithin, TokensWi
 use Rattle.texml_token.proofs.Table.{extends_refl}
 use Rattle.texml_input.specs.Rest.{Tok, items_at}
 use Rattle.texml_input.specs.Held.{Source, Plain, back_source, aside_of, rest_at, SourcesWithin}
-use Rattle.texml_input.proofs.Sources.{aside_put, ids_put, fences_put, room_put, within_put}
+use Rattle.texml_input.proofs.Sources.{aside_put, ids_put, room_put, within_put}
 use Rattle.texml_input.proofs.Standing.{rest_tokens, within_back}
 use Rattle.texml_expand.specs.State.{State}
 use Rattle.texml_expand.specs.Expand.{put, back, finished}
@@ -46,11 +46,11 @@ puts_back h t true = record { limit = refl; nesting = refl; begun = refl; room =
 puts_back h t false = record { limit = refl; nesting = refl; begun = refl; room = λ shelf. omega arith }
 
 pub files_put : (h : Held) (list : List TokenCode) → SameFiles h (with_sources h (map Plain list ++ h.input.sources))
-files_put h list = record { ids = ids_put list h.input.sources; fences = fences_put list h.input.sources }
+files_put h list = record { ids = ids_put list h.input.sources }
 
 pub files_back : (h : Held) (t : TokenCode) (frozen : Bool) → SameFiles h (with_sources h (back_source t frozen ∷ h.input.sources))
-files_back h t true = record { ids = refl; fences = refl }
-files_back h t false = record { ids = refl; fences = refl }
+files_back h t true = record { ids = refl }
+files_back h t false = record { ids = refl }
 
 -- the end of an expansion, before it is told of
 pub state_finished : (h : Held) (list : List TokenCode) (shelf : Shelf)
@@ -58,4 +58,4 @@ pub state_finished : (h : Held) (list : List TokenCode) (shelf : Shelf)
 state_finished h list shelf = ap (λ (s : State). record s { nesting = h.nesting - 1 }) (state_put h list shelf)
 
 pub files_finished : (h new : Held) (list : List TokenCode) → SameFiles (record h { input = record h.input { sources = map Plain list ++ h.input.sources }; nesting = h.nesting - 1 }) new → SameFiles h new
-files_finished h new list same = record { ids = same.ids ∙ ids_put list h.input.sources; fences = same.fences ∙ fences_put list h.input.sources }
+files_finished h new list same = record { ids = same.ids ∙ ids_put list h.input.sources }

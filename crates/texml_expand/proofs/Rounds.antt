@@ -1,5 +1,5 @@
 -- Fetching and expanding, step by step.
-use Rattle.std.proofs.Common.{◌≡◌, ◌+◌, ◌-◌, ◌≤◌, ◌<◌, ℕ, Bool, Option, Some, None, Result, Ok, Err, sym, subst, arith}
+use Rattle.std.proofs.Common.{◌≡◌, ◌+◌, ◌-◌, ◌≤◌, ◌<◌, ℕ, Bool, List, ◌++◌, append_assoc, Option, Some, None, Result, Ok, Err, refl, sym, ap, subst, arith}
 use Rattle.std.specs.Result.{OnOk}
 use Rattle.texml_token.specs.Token.{Token}
 use Rattle.texml_watch.specs.declared.record.Record.{Record}
@@ -8,7 +8,8 @@ use Rattle.texml_base.specs.Outside.{Shelf}
 use Rattle.texml_input.specs.Held.{Plain}
 use Rattle.texml_input.specs.Next.{Taken}
 use Rattle.texml_expand.specs.declared.variables.Index.{Index}
-use Rattle.texml_expand.specs.Calls.{Expandable, Gift}
+use Rattle.texml_expand.specs.State.{Answer, Done, Ended, Unfinished, Gains, Reading, chain, after, ◌⊕◌, ◌>>=◌}
+use Rattle.texml_expand.specs.Calls.{Expandable, Input, Gift}
 use Rattle.texml_expand.specs.declared.engine.expanding.Gift.{Gift as GiftCode}
 use Rattle.texml_expand.specs.Quantities.{Looked, read_index, next_looked}
 use Rattle.texml_expand.specs.Expand.{Front, Nothing, Plain, Expands, front, begin, given, finish, expand_by, fetch_front, level}
@@ -17,13 +18,31 @@ use Rattle.texml_expand.specs.Fronts.{front_at, gift_at}
 use Rattle.texml_expand.specs.Held.{Held, state_of, Sound, Kept, Progress, IsAtLimit, Owns, SameFiles, Shrinks, Begun}
 use Rattle.texml_expand.specs.Contract.{Local, Outside, outside, files_at, Stops, stop_after}
 use Rattle.texml_expand.specs.Hearing.{Meets}
-use Rattle.texml_expand.specs.Doing.{Does, Gets}
+use Rattle.texml_expand.specs.Include.{file_name, opened, opening}
+use Rattle.texml_expand.specs.Doing.{Does, Gets, Tells}
 use Rattle.texml_expand.proofs.Running.{shrinks_none, shrinks_then, shrinks_begun, holding_same}
 use Rattle.texml_expand.proofs.Lawful.{lawful_fetch, lawful_expand}
 use Rattle.texml_expand.proofs.Total.{total, fetch_is, expand_is}
+use Rattle.texml_expand.proofs.Including.{lawful_file_name, lawful_opened}
 use Rattle.texml_expand.proofs.Levels.{lawful_given}
-use Rattle.texml_expand.proofs.Doing.{Did, does_of, did_of, did_as, did_then, did_stop, did_silent, did_gets, did_now}
+use Rattle.texml_expand.proofs.Doing.{Did, does_of, did_of, did_as, did_then, did_stop, did_silent, did_gets, did_now, does_stop}
 use Rattle.texml_expand.proofs.Fronts.{begun_kept}
+
+-- one reading, and what follows two of them
+after_after : {A : Type 0} (g h : Gains) (x : Answer A) → after g (after h x) ≡ after (g ⊕ h) x
+after_after g h (Done a s more) = ap (λ rows. Done a s (record { records = rows })) (sym (append_assoc g.records h.records more.records))
+after_after g h (Ended e more) = ap (λ rows. Ended e (record { records = rows })) (sym (append_assoc g.records h.records more.records))
+after_after g h (Unfinished more) = ap (λ rows. Unfinished (record { records = rows })) (sym (append_assoc g.records h.records more.records))
+
+chain_after : {A B : Type 0} (g : Gains) (x : Answer A) (k : A → Reading B) → chain (after g x) k ≡ after g (chain x k)
+chain_after g (Done a s more) k = sym (after_after g more (k a s))
+chain_after g (Ended e more) k = refl
+chain_after g (Unfinished more) k = refl
+
+chain_chain : {A B C : Type 0} (x : Answer A) (f : A → Reading B) (k : B → Reading C) → chain (chain x f) k ≡ chain x (λ v. f v >>= k)
+chain_chain (Done a s gains) f k = chain_after gains (f a s) k
+chain_chain (Ended e gains) f k = refl
+chain_chain (Unfinished gains) f k = refl
 
 -- less is left to read
 pub begun_smaller : (j : ℕ) (a b : Shelf) (old mid new : Held) → Shrinks j a old b mid → Begun mid new → new.limit - new.begun < old.limit - old.begun
@@ -112,6 +131,25 @@ module _ {T : Type 0} (hear part : T → Record → T → Type 0) where
   expand_ends t x gift r old mid now new f g h a b c d k u =
       expand_does t x r old new f h a c (did_then hear part (begin (state_of f.shelf old)) _ tt r old mid new f f h a a c d
       (did_then hear part (given total t x (state_of f.shelf mid)) (finish t) gift r mid now new f g h a b c (did_of hear part (λ c. given c t x) (lawful_given t x) (Ok gift) mid now f g a b k) u))
+
+  pub expand_same : (t : Token) (x y : Expandable) (r : Result (Unit {0}) Stop) (old new : Held) (f g : Outside) (a b : T) → x ≡ y → Does hear part (λ n. (level n).expand t x) r old new f g a b → Does hear part (λ n. (level n).expand t y) r old new f g a b
+  expand_same t x y r old new f g a b e d = subst (λ z. Does hear part (λ n. (level n).expand t z) r old new f g a b) e d
+
+  -- \input, of which no name is read, or one that opens a file
+  pub expand_unnamed : (t : Token) (e : Stop) (old mid new : Held) (f g : Outside) (a b : T) → Did hear part (begin (state_of f.shelf old)) (Ok tt) old mid f f a a → Does hear part (λ n. file_name (level n)) (Err e) mid new f g a b
+      → Does hear part (λ n. (level n).expand t Input) (Err e) old new f g a b
+  expand_unnamed t e old mid new f g a b d k = expand_ungiven t Input e old mid new f g a b d (does_stop hear part file_name (λ name c. opened name) lawful_file_name lawful_opened e mid new f g a b k)
+
+  did_told : {A : Type 0} (x : Reading A) (r : Result A Stop) (old new : Held) (f g : Outside) (a b : T) → Tells hear part x r old new f g a b → Did hear part (x (state_of f.shelf old)) r old new f g a b
+  did_told x r old new f g a b d = record { meets = d.meets; stops = d.stops; limit = d.limit; keeps = d.keeps; progress = d.progress; holds = d.holds }
+
+  pub expand_opens : (t : Token) (name : List ℕ) (r : Result (Unit {0}) Stop) (old mid now new : Held) (f g h : Outside) (a b c : T) → Did hear part (begin (state_of f.shelf old)) (Ok tt) old mid f f a a
+      → Does hear part (λ n. file_name (level n)) (Ok name) mid now f g a b → Tells hear part (opening t name) r now new g h b c → Does hear part (λ n. (level n).expand t Input) r old new f h a c
+  expand_opens t name r old mid now new f g h a b c d k u =
+      expand_does t Input r old new f h a c (did_then hear part (begin (state_of f.shelf old)) _ tt r old mid new f f h a a c d
+      (did_as hear part _ _ r mid new f h a c (chain_chain (file_name total (state_of f.shelf mid)) opened (finish t))
+      (did_then hear part (file_name total (state_of f.shelf mid)) (opening t) name r mid now new f g h a b c (did_of hear part file_name lawful_file_name (Ok name) mid now f g a b k)
+      (did_told (opening t name) r now new g h b c u))))
 
   -- the same expansion
   pub given_as : (t u : Token) (x y : Expandable) (r : Result Gift Stop) (old new : Held) (f g : Outside) (a b : T) → u ≡ t → y ≡ x → Does hear part (λ n. given (level n) t x) r old new f g a b → Does hear part (λ n. given (level n) u y) r old new f g a b

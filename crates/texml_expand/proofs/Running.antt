@@ -2,7 +2,7 @@
 use Rattle.std.proofs.Common.{◌≡◌, ◌+◌, ◌≤◌, ℕ, IsTrue, List, None, Some, Result, Ok, Err, refl, sym, ap, ◌∙◌, subst, arith, inl, inr, eq-or-lt_of_le}
 use Rattle.std.specs.Result.{OnOk}
 use Rattle.texml_base.specs.Outside.{Shelf}
-use Rattle.texml_input.specs.Held.{ids_of, fences_of, AreHeld}
+use Rattle.texml_input.specs.Held.{ids_of, AreHeld}
 use Rattle.texml_watch.specs.declared.record.Record.{Record}
 use Rattle.texml_expand.specs.declared.stop.Stop.{Stop}
 use Rattle.texml_expand.specs.declared.stop.Stop.TheVariants as stop
@@ -22,24 +22,23 @@ pub told_on : (before now : Shelf) (old new : Held) → Holding before now old n
 told_on before now old new h told = subst IsTrue (sym h.tells) told
 
 pub holding_itself : (shelf : Shelf) (h : Held) → Owns shelf h → Holding shelf shelf h h
-holding_itself shelf h owns = record { owns = owns; tells = refl; contents = refl; fences = refl }
+holding_itself shelf h owns = record { owns = owns; tells = refl; contents = refl }
 
 pub holding_then : (a b c : Shelf) (old mid new : Held) → Holding a b old mid → Holding b c mid new → Holding a c old new
-holding_then a b c old mid new g h = record { owns = h.owns; tells = h.tells ∙ g.tells; contents = h.contents ∙ g.contents; fences = h.fences ∙ g.fences }
+holding_then a b c old mid new g h = record { owns = h.owns; tells = h.tells ∙ g.tells; contents = h.contents ∙ g.contents }
 
 pub holding_same : (shelf : Shelf) (old new : Held) → Owns shelf old → SameFiles old new → Holding shelf shelf old new
 holding_same shelf old new owns same = record {
   owns = record { held = subst (AreHeld shelf.ids) (sym same.ids) owns.held; all = owns.all ∙ sym same.ids };
   tells = refl;
   contents = refl;
-  fences = same.fences;
 }
 
 pub files_stopped : (old new : Held) (e : Stop) → new ≡ record old { stop = Some e } → SameFiles old new
-files_stopped old new e is = record { ids = ap (λ (h : Held). ids_of h.input.sources) is; fences = ap (λ (h : Held). fences_of h.input.sources) is }
+files_stopped old new e is = record { ids = ap (λ (h : Held). ids_of h.input.sources) is }
 
 pub files_same : (old new : Held) → new ≡ old → SameFiles old new
-files_same old new is = record { ids = ap (λ (h : Held). ids_of h.input.sources) is; fences = ap (λ (h : Held). fences_of h.input.sources) is }
+files_same old new is = record { ids = ap (λ (h : Held). ids_of h.input.sources) is }
 
 -- Room
 

@@ -1,5 +1,5 @@
 -- Skipped text, token by token.
-use Rattle.std.proofs.Common.{◌≡◌, ◌+◌, ◌==◌, ◌≤◌, Bool, true, false, if◌then◌else◌, count_by, List, [], ◌∷◌, ◌++◌, append_assoc, append-nil, length, map, Option, Some, None, refl, sym, ap, ap₂, ◌∙◌, arith}
+use Rattle.std.proofs.Common.{◌≡◌, ◌+◌, ◌==◌, ◌≤◌, Bool, true, false, ◌&&◌, if◌then◌else◌, count_by, List, [], ◌∷◌, ◌++◌, append_assoc, append-nil, length, map, Option, Some, None, refl, sym, ap, ap₂, ◌∙◌, arith}
 use Rattle.std.proofs.lemmas.List.{map-append}
 use Rattle.std.proofs.lemmas.List.Folds.{fold-map}
 use Rattle.texml_token.specs.Token.{Token}
@@ -18,7 +18,7 @@ use Rattle.texml_expand.specs.declared.feeding.Verdict.TheVariants.{TooShort, Yi
 use Rattle.texml_input.specs.Next.{Taken, Given, Got, AtEnd, Invalid, NotUtf8, next}
 use Rattle.texml_input.specs.Codes.{cats_of, end_of}
 use Rattle.texml_expand.specs.State.{State, End, Tex, room, nothing, Done, Ended, fault_at}
-use Rattle.texml_expand.specs.Take.{take_given, take, means}
+use Rattle.texml_expand.specs.Take.{take_token, take_given, take, means}
 use Rattle.texml_expand.specs.Least.{inside_if, inside, inner_token, decides, by_least}
 use Rattle.texml_expand.specs.Conditionals.{reached, skipped}
 use Rattle.texml_expand.proofs.Leading.{Leads, leads_chain, leads_weaker, leads_at}
@@ -58,8 +58,12 @@ same_skip ms ns e = behind_parts [] ms ∙ ap (skip_parts []) e ∙ sym (behind_
 
 -- Taking a token changes no meaning
 
+token_world : (b : Bool) (x : Taken) (s t : State) → t.world ≡ s.world → Leads (λ o u. u.world ≡ s.world) (take_token b x t)
+token_world true x s t e = tt
+token_world false x s t e = e
+
 given_world : (s : State) (g : Given) → Leads (λ o t. t.world ≡ s.world) (take_given g s)
-given_world s (Got x rest place bytes) = refl
+given_world s (Got x rest place bytes) = token_world (s.absorbing && x.crossed) x s (record s { rest = rest; place = place }) refl
 given_world s (AtEnd place bytes) = refl
 given_world s (Invalid c place bytes) = tt
 given_world s (NotUtf8 place bytes) = tt

@@ -1,9 +1,9 @@
 -- What taking a token is, by what the rest gives.
-use Rattle.std.proofs.Common.{◌≡◌, ℕ, List, [], Option, Some, None, Result, Ok, Err, refl, sym, ap, ◌∙◌, subst}
+use Rattle.std.proofs.Common.{◌≡◌, ◌&&◌, ℕ, true, false, List, [], Option, Some, None, IfSome, Result, Ok, Err, refl, sym, ap, ◌∙◌, subst}
 use Rattle.std.specs.Option.{option_map}
 use Rattle.texml_token.specs.Token.{Token}
 use Rattle.texml_token.specs.Numbers.{Table}
-use Rattle.texml_token.specs.declared.fault_code.TheConstants.{INVALID_CHAR, NOT_UTF8}
+use Rattle.texml_token.specs.declared.fault_code.TheConstants.{FILE_ENDED, INVALID_CHAR, NOT_UTF8}
 use Rattle.texml_input.specs.Rest.{Item, Place}
 use Rattle.texml_input.specs.Next.{Taken, Given, next}
 use Rattle.texml_input.specs.Answers.{given_at, IsNext}
@@ -15,7 +15,7 @@ use Rattle.texml_expand.specs.Held.{read_at, placed}
 use Rattle.texml_expand.specs.declared.stop.Stop.{Stop}
 use Rattle.texml_expand.specs.declared.stop.Stop.TheVariants as stop
 use Rattle.texml_expand.specs.State.{State, Answer, Done, Ended, Tex, nothing, fault_at}
-use Rattle.texml_expand.specs.Expand.{take, take_given}
+use Rattle.texml_expand.specs.Take.{take, take_given, take_token}
 use Rattle.texml_expand.specs.Contract.{Silent, Quiet, IsFaultAt}
 use Rattle.texml_expand.proofs.Placing.{given_placed, next_placed}
 
@@ -29,9 +29,14 @@ module _ (s : State) (main : List ℕ) (at : Place) (here : s.place ≡ placed m
       ap (λ p. take_given (next (cats_of s.world) (end_of s.world) s.rest p) s) here ∙ ap (λ g. take_given g s) (next_placed main (cats_of s.world) (end_of s.world) s.rest at)
       ∙ ap (λ g. take_given (given_placed main g) s) e
 
-  pub take_ok : (rest : List (Item Token)) (place : Place) (o : Option Taken) → IsNext found (Ok o) rest place → take s ≡ Done o (record s { rest = rest; place = placed main place }) nothing
-  take_ok rest place (Some t) m = taken _ m.1
-  take_ok rest place None m = taken _ m.1 ∙ ap {A = List (Item Token)} (λ r. Done None (record s { rest = r; place = placed main place }) nothing) (sym m.2)
+  -- no file has ended on the way that may not end there
+  pub take_ok : (rest : List (Item Token)) (place : Place) (o : Option Taken) → IsNext found (Ok o) rest place → IfSome o (λ t. (s.absorbing && t.crossed) ≡ false) → take s ≡ Done o (record s { rest = rest; place = placed main place }) nothing
+  take_ok rest place (Some t) m whole = taken _ m.1 ∙ ap (λ b. take_token b t (record s { rest = rest; place = placed main place })) whole
+  take_ok rest place None m whole = taken _ m.1 ∙ ap {A = List (Item Token)} (λ r. Done None (record s { rest = r; place = placed main place }) nothing) (sym m.2)
+
+  -- one has
+  pub take_broken : (rest : List (Item Token)) (place : Place) (t : Taken) → IsNext found (Ok (Some t)) rest place → (s.absorbing && t.crossed) ≡ true → take s ≡ Ended (Tex (fault_at FILE_ENDED [] (placed main place))) nothing
+  take_broken rest place t m broken = taken _ m.1 ∙ ap (λ b. take_token b t (record s { rest = rest; place = placed main place })) broken
 
   pub take_invalid : (c : ℕ) (rest : List (Item Token)) (place : Place) → IsNext found (Err (fault.Invalid c)) rest place → take s ≡ Ended (Tex (fault_at INVALID_CHAR [] (placed main place))) nothing
   take_invalid c rest place m = taken _ m.1

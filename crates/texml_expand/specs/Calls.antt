@@ -3,12 +3,12 @@ use Rattle.std.specs.Prelude.{ℕ, ◌==◌, if◌then◌else◌, List, [], ◌�
 use Rattle.texml_token.specs.Token.{Token}
 use Rattle.texml_scope.specs.Texts.{Meaning, MacroText}
 use Rattle.texml_scope.specs.declared.values.MeaningOf.TheVariants.{Macro, Builtin}
-use Rattle.texml_scope.specs.declared.builtins.TheConstants.{EXPANDAFTER, NOEXPAND, CSNAME, STRING, NUMBER, ROMANNUMERAL, THE, JOBNAME, ELSE, OR, FI}
+use Rattle.texml_scope.specs.declared.builtins.TheConstants.{EXPANDAFTER, NOEXPAND, CSNAME, STRING, NUMBER, ROMANNUMERAL, THE, JOBNAME, INPUT, ENDINPUT, ELSE, OR, FI}
 use Rattle.texml_cond.specs.declared.limits.Word.{Word}
 use Rattle.texml_cond.specs.declared.limits.Word.TheVariants as words
 use Rattle.texml_scan.specs.declared.looks.Look.{Look}
 use Rattle.texml_scan.specs.Grammar.{Remainder}
-use Rattle.texml_input.specs.Rest.{Item, Tok, Frozen}
+use Rattle.texml_input.specs.Rest.{Page, Item, Tok, Frozen, Text}
 use Rattle.texml_input.specs.Next.{Taken}
 use Rattle.texml_expand.specs.State.{Reading}
 use Rattle.texml_expand.specs.Branches.{Test, test_at}
@@ -25,6 +25,8 @@ pub data Expandable : Type 0 where
   RomanNumeral : Expandable
   The : Expandable
   JobName : Expandable
+  Input : Expandable
+  EndInput : Expandable
   Conditional : Test → Expandable
   PartEnd : Word → Expandable
 
@@ -39,6 +41,8 @@ expandable_at place =
     else if place == ROMANNUMERAL then Some RomanNumeral
     else if place == THE then Some The
     else if place == JOBNAME then Some JobName
+    else if place == INPUT then Some Input
+    else if place == ENDINPUT then Some EndInput
     else if place == ELSE then Some (PartEnd words.Else)
     else if place == OR then Some (PartEnd words.Or)
     else if place == FI then Some (PartEnd words.Fi)
@@ -51,19 +55,26 @@ expandable (Some (Macro m)) = Some (Call m)
 expandable (Some (Builtin place)) = expandable_at place
 expandable (Some m) = None
 
--- what an expansion gives: tokens that go back, or one that goes back kept from being expanded
+-- what an expansion gives: tokens that go back, one that goes back kept from being expanded, or the text of a file
 pub data Gift : Type 0 where
   Puts : List Token → Gift
   Freezes : Token → Gift
+  Opens : Page → Gift
 
--- the tokens that it puts back, as items and as they are told
+-- what it puts back: items, the tokens that are told, and the name of the file that was opened, or nothing
 abbrev pub items_of : Gift → List (Item Token)
 items_of (Puts list) = map Tok list
 items_of (Freezes t) = Frozen t ∷ []
+items_of (Opens text) = Text text ∷ []
 
 abbrev pub tokens_of : Gift → List Token
 tokens_of (Puts list) = list
 tokens_of (Freezes t) = t ∷ []
+tokens_of (Opens text) = []
+
+abbrev pub file_of : Gift → List ℕ
+file_of (Opens text) = text.name
+file_of gift = []
 
 -- a token that was looked at for a quantity, and its look
 pub record Seen : Type 0 where

@@ -6,6 +6,7 @@ pub mod Branches
 pub mod Calls
 pub mod Front
 pub mod Begin
+pub mod Include
 pub mod Braces
 pub mod Printed
 pub mod Variables

@@ -1,5 +1,5 @@
 -- A state of the engine, and what a reading answers from one.
-use Rattle.std.specs.Prelude.{ℕ, ◌+◌, List, [], ◌∷◌, ◌++◌, length, sum_by, Option}
+use Rattle.std.specs.Prelude.{ℕ, ◌+◌, Bool, List, [], ◌∷◌, ◌++◌, length, sum_by, Option}
 use Rattle.std.specs.Option.{option_to_list}
 use Rattle.texml_token.specs.Token.{Token}
 use Rattle.texml_token.specs.declared.fault.Fault.{Fault}
@@ -9,8 +9,8 @@ use Rattle.texml_watch.specs.declared.record.Record.{Record}
 use Rattle.texml_input.specs.Rest.{Item, Place, size}
 
 -- what names mean, what is still to be read, and what is set aside, the innermost first; the token that comes after the next assignment; the
--- expansions begun, their limit, and how many are open; where the line stands that was loaded last; the limits of the open conditionals, the
--- innermost last; the name of the main file as it was given; and what the file of each name has, if there is one
+-- expansions begun, their limit, and how many are open; whether a group is absorbed with expanding, inside which no file may end; where the line
+-- stands that was loaded last; the limits of the open conditionals, the innermost last; the name of the main file as it was given; and what the file of each name has, if there is one
 pub record State : Type 0 where
   pub world : World
   pub rest : List (Item Token)
@@ -19,6 +19,7 @@ pub record State : Type 0 where
   pub begun : ℕ
   pub limit : ℕ
   pub nesting : ℕ
+  pub absorbing : Bool
   pub place : Place
   pub conditionals : List Bound
   pub job : List ℕ

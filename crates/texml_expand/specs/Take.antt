@@ -1,8 +1,8 @@
 -- Tokens are taken and put back, and what a token means (The TeXbook, chapters 20 and 24).
-use Rattle.std.specs.Prelude.{ℕ, Bool, List, [], ◌∷◌, ◌++◌, map, Option, Some, None, pos, encode_utf8_all}
+use Rattle.std.specs.Prelude.{ℕ, Bool, true, false, ◌&&◌, List, [], ◌∷◌, ◌++◌, map, Option, Some, None, pos, encode_utf8_all}
 use Rattle.std.specs.Option.{unwrap_or}
 use Rattle.texml_token.specs.Token.{Token, Char, Active, Param, Named, Fixed}
-use Rattle.texml_token.specs.declared.fault_code.TheConstants.{INVALID_CHAR, NOT_UTF8}
+use Rattle.texml_token.specs.declared.fault_code.TheConstants.{FILE_ENDED, INVALID_CHAR, NOT_UTF8}
 use Rattle.texml_token.specs.Spelling.{spelled}
 use Rattle.texml_scope.specs.declared.values.KeyOf.TheVariants.{Name}
 use Rattle.texml_scope.specs.Texts.{Meaning, World}
@@ -17,10 +17,15 @@ use Rattle.texml_expand.specs.State.{State, Tex, fault_at, nothing, Done, Ended,
 
 -- Taking
 
+-- a token, unless a file has ended on the way to it which may not end there: that is fault 4
+abbrev pub take_token : Bool → Taken → Reading (Option Taken)
+take_token true t s = Ended (Tex (fault_at FILE_ENDED [] s.place)) nothing
+take_token false t s = Done (Some t) s nothing
+
 -- the token that stands at the front of the rest, or the end; a character that may not stand there is fault 15, and a line that is not UTF-8
 -- fault 20
 abbrev pub take_given : Given → Reading (Option Taken)
-take_given (Got t rest place bytes) s = Done (Some t) (record s { rest = rest; place = place }) nothing
+take_given (Got t rest place bytes) s = take_token (s.absorbing && t.crossed) t (record s { rest = rest; place = place })
 take_given (AtEnd place bytes) s = Done None (record s { rest = []; place = place }) nothing
 take_given (Invalid c place bytes) s = Ended (Tex (fault_at INVALID_CHAR [] place)) nothing
 take_given (NotUtf8 place bytes) s = Ended (Tex (fault_at NOT_UTF8 [] place)) nothing

@@ -7,19 +7,22 @@ ghost use Rattle.texml_token.specs.Numbers.{Table, token_at, tokens_at, TokenWit
 ghost use Rattle.texml_token.specs.Token.{has_category};
 ghost use Rattle.texml_expand.specs.Braces.{closes};
 ghost use Rattle.texml_expand.specs.Names.{char_code as spec_char_code, text_of as spec_text_of};
-ghost use Rattle.texml_expand.specs.Gathering.{doubled_token, doubled as spec_doubled};
+ghost use Rattle.texml_expand.specs.Gathering.{doubled_token, doubled as spec_doubled, file_part as spec_file_part};
+ghost use Rattle.texml_expand.specs.Fronts.{behind_spaces};
 
 use std::alloc::{AllocError, Global};
 use std::marker::Model;
 use texml_token::{Line, Token, Tokens, category};
 
-/// What is gathered: the characters of a name up to `\endcsname`; the relation between two numbers, behind spaces; or the tokens of a
-/// group up to its closing brace.
+/// What is gathered: the characters of a name up to `\endcsname`; the relation between two numbers, behind spaces; the tokens of a
+/// group up to its closing brace; the characters of a file's name; or all that is left.
 #[derive(Clone, Copy, Debug, PartialEq, Eq)]
 pub(crate) enum Gathering {
     Name,
     Relation,
     Group,
+    FileName,
+    All,
 }
 
 /// The tokens that were gathered, and how many groups begin and end in them.
@@ -88,12 +91,35 @@ impl Gathered {
         Ok(())
     }
 
+    /// The name of a file: what stands behind the spaces before it.
+    pub(crate) fn file_part(&self, alloc: Global) -> Result<Tokens, AllocError>
+        ensures is { IfOk result (λ list. (texts : Table) → tokens_at texts list ≡ spec_file_part (tokens_at texts self.now)) }
+        ensures within { IfOk result (λ list. (count : ℕ) → TokensWithin count self.now → TokensWithin count list) }
+    {
+        let mut name = Tokens::new(alloc);
+        for token in self.list.as_slice() {
+            push_behind_spaces(&mut name, *token)?;
+        }
+        Ok(name)
+    }
+
     /// All of them.
     pub(crate) fn tokens(&self) -> Result<Tokens, AllocError>
         ensures { IfOk result (λ list. list ≡ self.now) }
     {
         self.list.clone()
     }
+}
+
+// One token more, unless it is a space before all others.
+fn push_behind_spaces(name: &mut Tokens, token: Token) -> Result<(), AllocError>
+    ensures is { OnOk result ((texts : Table) → tokens_at texts name.new ≡ behind_spaces (tokens_at texts name.old) (token_at texts token)) }
+    ensures within { OnOk result ((count : ℕ) → TokenWithin count token → TokensWithin count name.old → TokensWithin count name.new) }
+{
+    if name.as_slice().is_empty() && token.has_category(category::SPACE) {
+        return Ok(());
+    }
+    name.push(token)
 }
 
 // A number of tokens of a category, with one token more.

@@ -144,6 +144,11 @@ IsAtFence (Marked t ∷ sources) = ⊥
 IsAtFence (File f ∷ sources) = ⊥
 IsAtFence (Fence ∷ sources) = Unit {0}
 
+-- what stands behind the fence in front, if there is one
+abbrev pub unfenced : List Source → List Source
+unfenced (Fence ∷ sources) = sources
+unfenced sources = sources
+
 -- the readers of files have no fault
 abbrev pub AreSound : List Source → Type 0
 AreSound [] = Unit {0}

@@ -1,18 +1,17 @@
 //! What is done to all frames of an input.
 ghost use Rattle.std.specs.Prelude.{◌≡◌, ◌≤◌, ◌∷◌, [], length, replicate, vec_capacity, IsTrue};
-ghost use Rattle.texml_input.specs.Held.{Fence, ids_of, fences_of, AreHeld, IsAtFence, end_first};
+ghost use Rattle.texml_input.specs.Held.{Fence, ids_of, fences_of, AreHeld, IsAtFence, unfenced, end_first};
 ghost use Rattle.texml_input.specs.Keeping.{Holds};
 ghost use Rattle.texml_input.specs.Inside.{sources_of, written, ClosesFrame};
 
 use crate::turning::{Frame, put_last, take_front};
 use texml_base::Files;
 
-// Takes away the first fence, with the frames before it, of which nothing is left.
+// Takes away the first fence, if there is one, with the frames before it, of which nothing is left.
 #[tactic(auto, using(crate::proofs::Emptied::dropped))]
 pub fn drop_fence(frames: &mut Vec<Frame>)
-    requires stands { 1 ≤ fences_of (sources_of frames.old.items) }
     requires at { IsAtFence (sources_of frames.old.items) }
-    ensures { sources_of frames.old.items ≡ Fence ∷ sources_of frames.new.items }
+    ensures { sources_of frames.new.items ≡ unfenced (sources_of frames.old.items) }
 {
     while let Some(frame) = take_front(frames) {
         if is_fence(frame) {

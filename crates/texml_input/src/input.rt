@@ -7,7 +7,7 @@ ghost use Rattle.texml_input.specs.Put.{put_code};
 ghost use Rattle.texml_base.specs.Outside.{Shelf};
 ghost use Rattle.texml_input.specs.Rest.{no_place, end_rests};
 ghost use Rattle.texml_input.specs.Next.{next};
-ghost use Rattle.texml_input.specs.Held.{Plain, File, Fence, back_source, fresh_file, ids_of, fences_of, rest_of, aside_of, AreHeld, AreSound, AreLittle, SourcesWithin, rest_at, room_of, IsAtFence, end_first};
+ghost use Rattle.texml_input.specs.Held.{Plain, File, Fence, back_source, fresh_file, ids_of, fences_of, rest_of, aside_of, AreHeld, AreSound, AreLittle, SourcesWithin, rest_at, room_of, IsAtFence, unfenced, end_first};
 ghost use Rattle.texml_input.specs.Keeping.{Holds, HasInputCause};
 ghost use Rattle.texml_input.specs.Answers.{given_at, GivenWithin, IsNext, fault_after, LittleAfter, Loads, EndsAtFence};
 ghost use Rattle.texml_input.specs.Inside.{written};
@@ -194,11 +194,11 @@ impl Input {
         self.push(Frame::Fence)
     }
 
-    /// Takes away the fence, before which nothing is left, so that what was set aside is read again.
+    /// Takes away the fence, before which nothing is left, so that what was set aside last is read again. Where no fence stands nothing
+    /// changes.
     pub fn unfence(&mut self)
-        requires stands { 1 ≤ fences_of self.old.sources }
         requires at { IsAtFence self.old.sources }
-        ensures { self.old ≡ record self.new { sources = Fence ∷ self.new.sources } }
+        ensures { self.new ≡ record self.old { sources = unfenced self.old.sources } }
     {
         drop_fence(&mut self.frames);
     }

@@ -1,12 +1,14 @@
--- Digestion and outcomes, computed on small texts.
+-- Digestion, outcomes and notes, computed on small texts.
 use Rattle.std.proofs.Common.{◌≡◌, ℕ, List, [], ◌∷◌, Option, Some, None, map, length, ◌+◌, refl}
 use Rattle.std.specs.Prelude.{codes}
+use Rattle.std.specs.Fmt.{digits}
 use Rattle.texml_token.specs.declared.fault_code.TheConstants.{NO_GROUP}
 use Rattle.texml_input.specs.Rest.{Page, fresh}
 use Rattle.texml_expand.specs.State.{State, Answer, Done, Ended, Unfinished, Tex, fault_at}
 use Rattle.texml_top.specs.Digest.{digests}
 use Rattle.texml_top.specs.declared.request.Command.TheVariants.{Expand}
 use Rattle.texml_top.specs.Outcome.{first_state, IsOutcomeFrom, IsOutcome}
+use Rattle.texml_top.specs.Notes.{note_of}
 use Rattle.texml_tree.specs.declared.ops.Op.{Op}
 use Rattle.texml_tree.specs.declared.ops.Op.TheVariants.{Open, Close, CloseIf, Space, Text}
 use Rattle.texml_top.specs.declared.table.TheConstants.{PARAGRAPH, BREAK, CODE}
@@ -66,3 +68,25 @@ trace_to_limit = record { answer = read 2 (codes "\\def\\x{\\x}\\x" ∷ []) 9; g
 too_few : (contents : List ℕ → Option (List ℕ)) → IsOutcome (codes "convert" ∷ []) contents (record { status = status.Usage 2; bytes = []; records = [] })
 unfolding lib.Utf8.encode
 too_few contents = refl
+
+-- the line of a fault that is about something, and of one that isn't
+fault_is_noted : note_of (status.Tex (record { code = 1; file = codes "main.tex"; line = 30; about = codes "\\x" })) ≡ codes "main.tex:30: fault 1 Undefined \\x\n"
+unfolding digits lib.Utf8.encode
+fault_is_noted = refl
+
+plain_fault_is_noted : note_of (status.Tex (record { code = 20; file = codes "a b"; line = 0; about = [] })) ≡ codes "a b:0: fault 20 NotUtf8\n"
+unfolding digits lib.Utf8.encode
+plain_fault_is_noted = refl
+
+-- what the table of elements doesn't allow: an element, and a text
+misplaced_is_noted : note_of (status.Model (record { code = 1; child = codes "item"; parent = codes "document" })) ≡ codes "model fault 1 NoPlace item document\n"
+unfolding digits lib.Utf8.encode
+misplaced_is_noted = refl
+
+text_is_noted : note_of (status.Model (record { code = 2; child = []; parent = codes "list" })) ≡ codes "model fault 2 NoText list\n"
+unfolding digits lib.Utf8.encode
+text_is_noted = refl
+
+limit_is_noted : note_of (status.Limit 10000000) ≡ codes "limit 10000000 reached\n"
+unfolding digits lib.Utf8.encode
+limit_is_noted = refl

@@ -9,7 +9,8 @@ use Rattle.texml_input.specs.Rest.{no_place}
 use Rattle.texml_input.specs.Held.{Held as HeldInput, File, fresh_file}
 use Rattle.texml_input.specs.Searching.{names_tried, first_there}
 use Rattle.texml_expand.specs.Held.{Held, state_of}
-use Rattle.texml_top.specs.Outcome.{before, whole_text, main_text}
+use Rattle.texml_expand.specs.Include.{whole_text}
+use Rattle.texml_top.specs.Outcome.{before, main_text}
 use Rattle.texml_top.specs.Run.{FilesBlamed, unread}
 use Rattle.texml_top.specs.Start.{IsStatusAt, IsEmpty, IsFirst, Starts}
 use Rattle.texml_top.specs.declared.status.Status.{Status}
@@ -29,7 +30,7 @@ module _ (old now : Shelf) (name found : List ℕ) (id limit : ℕ) (made : Held
   starts_on there told = (
     whole_text old.contents found,
     rw (there told) refl,
-    ap (state_of now) alone ∙ rw (empty.world, empty.kept, empty.conditionals, empty.main, empty.begun, empty.limit, empty.nesting, opened.contents, text_is told) refl,
+    ap (state_of now) alone ∙ rw (empty.world, empty.kept, empty.conditionals, empty.main, empty.begun, empty.limit, empty.nesting, empty.absorbing, opened.contents, text_is told) refl,
   )
 
 -- a file that isn't there

@@ -1,17 +1,17 @@
 -- What a run answers and writes.
-use Rattle.std.specs.Prelude.{◌≡◌, ℕ, List, [], ◌∷◌, unwrap_or, Result, Ok, Err, None}
+use Rattle.std.specs.Prelude.{◌≡◌, ℕ, false, List, [], ◌∷◌, Result, Ok, Err, None}
 use Rattle.std.specs.declared.option.Option.{Option}
 use Rattle.std.specs.Option.{option_map, ok_or}
 use Rattle.texml_token.specs.declared.fault_code.TheConstants.{MISSING_FILE}
-use Rattle.texml_text.specs.File.{rows}
 use Rattle.texml_scope.specs.Builtins.{first_world}
 use Rattle.texml_watch.specs.declared.record.Record.{Record}
 use Rattle.texml_watch.specs.Trace.{trace}
-use Rattle.texml_input.specs.Rest.{Page, Place, Text, fresh}
+use Rattle.texml_input.specs.Rest.{Page, Place, Text}
 use Rattle.texml_input.specs.Next.{place_at}
 use Rattle.texml_input.specs.Searching.{names_tried, first_there}
 use Rattle.texml_expand.specs.State.{State, End, Tex, Limit, Answer, Done, Ended, Unfinished, fault_at}
 use Rattle.texml_expand.specs.Contract.{DecidesOn}
+use Rattle.texml_expand.specs.Include.{whole_text}
 use Rattle.texml_top.specs.Request.{Request, asked}
 use Rattle.texml_top.specs.declared.request.Command.{Command}
 use Rattle.texml_top.specs.declared.request.Command.TheVariants.{Convert, Expand}
@@ -36,10 +36,6 @@ refused s = record { status = s; bytes = []; records = [] }
 abbrev pub before : List ℕ → Place
 before file = place_at file 0
 
--- the text of a file that there is: all its lines are still to be read
-abbrev pub whole_text : (List ℕ → Option (List ℕ)) → List ℕ → Page
-whole_text contents name = fresh name (rows (unwrap_or (contents name) []))
-
 -- the main file's, which is the first that there is of the names that are tried; where there is none it is a fault about the name that was given
 abbrev pub main_text : (List ℕ → Option (List ℕ)) → List ℕ → Result Page Status
 main_text contents file = ok_or (option_map (whole_text contents) (first_there contents (names_tried file))) (status.Tex (fault_at MISSING_FILE file (before file)))
@@ -54,6 +50,7 @@ first_state contents file limit text = record {
   begun = 0;
   limit = limit;
   nesting = 0;
+  absorbing = false;
   place = before file;
   conditionals = [];
   job = file;

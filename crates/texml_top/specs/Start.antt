@@ -1,5 +1,5 @@
 -- How a run starts on its file.
-use Rattle.std.specs.Prelude.{◌≡◌, ℕ, List, [], Option, None, Result, Ok, Err, IsTrue}
+use Rattle.std.specs.Prelude.{◌≡◌, ℕ, false, List, [], Option, None, Result, Ok, Err, IsTrue}
 use Rattle.texml_base.specs.Outside.{Shelf}
 use Rattle.texml_token.specs.Numbers.{Numbered}
 use Rattle.texml_scope.specs.Builtins.{first_world}
@@ -27,6 +27,7 @@ pub record IsEmpty (name : List ℕ) (most : ℕ) (engine : Held) : Type 0 where
   pub begun : engine.begun ≡ 0
   pub limit : engine.limit ≡ most
   pub nesting : engine.nesting ≡ 0
+  pub absorbing : engine.absorbing ≡ false
   pub stop : engine.stop ≡ None
   pub sound : Sound engine
 

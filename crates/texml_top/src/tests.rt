@@ -6,6 +6,8 @@ use super::*;
 use std::alloc::{AllocError, Global};
 use std::test::Fail;
 use texml_base::{CalmFiles, CalmSink, MemoryFiles, MemorySink};
+use texml_token::Bytes;
+use texml_tree::ModelFault;
 
 const HEAD: &str =
     "<!DOCTYPE html>\n<html><head><meta charset=\"utf-8\"><title>untitled</title></head><body><main id=\"x0\">";
@@ -158,24 +160,85 @@ fn missing_file_is_a_fault_about_its_name(rt: HostRuntime) -> Result<(), Fail> {
     Ok(())
 }
 
+#[test]
+fn each_status_has_its_line(rt: HostRuntime) -> Result<(), Fail> {
+    let alloc = rt.alloc();
+    let misplaced = Status::Model(ModelFault {
+        code: 1,
+        child: Bytes::from_slice(alloc, b"item")?,
+        parent: Bytes::from_slice(alloc, b"document")?,
+    });
+    let unclosed = Status::Model(ModelFault {
+        code: 4,
+        child: Bytes::from_slice(alloc, b"list")?,
+        parent: Bytes::new(alloc),
+    });
+    let rows = [
+        (Status::Done, ""),
+        (misplaced, "model fault 1 NoPlace item document\n"),
+        (unclosed, "model fault 4 Unclosed list\n"),
+        (Status::Limit(100), "limit 100 reached\n"),
+        (Status::ReadFault, "read failed\n"),
+        (Status::WriteFault, "write failed\n"),
+        (Status::NoMemory, "out of memory\n"),
+    ];
+    for (status, line) in rows {
+        let mut notes = MemorySink::new(alloc, 100, 0)?;
+        let _same = noted(&mut notes, status);
+        assert_eq!(rt; notes.bytes(), line.as_bytes());
+    }
+    Ok(())
+}
+
+#[test]
+fn a_note_ends_where_its_sink_fails(rt: HostRuntime) -> Result<(), Fail> {
+    let alloc = rt.alloc();
+    let line = b"main.tex:2: fault 1 Undefined \\foo\n".as_slice();
+    for room in 0..line.len() + 1 {
+        let mut files = main_file(alloc, b"a\n\\foo\n", 4096, 0)?;
+        let mut notes = MemorySink::new(alloc, room, 0)?;
+        let words = words_of(alloc, &["convert", "main.tex"])?;
+        match run(alloc, &words, &mut files, &mut CalmSink::new(), &mut notes) {
+            Status::Tex(fault) => assert_eq!(rt; fault.code, 1),
+            _ => assert!(rt; false),
+        }
+        assert_eq!(rt; notes.bytes(), &line[..room]);
+    }
+    Ok(())
+}
+
 const TWO: &[u8] = b"Hello\nworld\n\nTwo\n";
 
-// The open, the 17 reads of a byte and the read of the end may fail: the twentieth call is never made.
+// Each inputs a part of the other, so that the main file is open twice. Of the other file the last line is never loaded.
+const MAIN: &[u8] =
+    b"\\ifx\\again\\undefined\\def\\again{}main \\input other behind\\else inner\\fi\n";
+
+const OTHER: &[u8] = b"other \\input main \\endinput last\nlost\n";
+
+// Over two paragraphs the calls are the open, the 17 reads of a byte and the read of the end; over the two files three opens, 175 reads
+// of a byte and two of an end.
 #[test]
 fn each_call_on_files_may_fail(rt: HostRuntime) -> Result<(), Fail> {
     let alloc = rt.alloc();
-    for call in 1..21 {
-        let mut files = main_file(alloc, TWO, 1, call)?;
-        let mut out = MemorySink::new(alloc, 1000, 0)?;
-        let mut notes = MemorySink::new(alloc, 10, 0)?;
-        let words = words_of(alloc, &["convert", "main.tex"])?;
-        match run(alloc, &words, &mut files, &mut out, &mut notes) {
-            Status::ReadFault => {
-                assert!(rt; call < 20);
-                assert_eq!(rt; out.bytes().len(), 0);
+    let rows: [(&[u8], u64); 2] = [(TWO, 19), (MAIN, 180)];
+    for (text, calls) in rows {
+        for call in 1..calls + 2 {
+            let mut files = main_file(alloc, text, 1, call)?;
+            files.add(alloc, "other.tex", OTHER)?;
+            let mut out = MemorySink::new(alloc, 1000, 0)?;
+            let mut notes = MemorySink::new(alloc, 100, 0)?;
+            let words = words_of(alloc, &["convert", "main.tex"])?;
+            match run(alloc, &words, &mut files, &mut out, &mut notes) {
+                Status::ReadFault => {
+                    assert!(rt; call <= calls);
+                    assert_eq!(rt; out.bytes().len(), 0);
+                    assert_eq!(rt; notes.bytes(), b"read failed\n".as_slice());
+                }
+                Status::Done => assert_eq!(rt; call, calls + 1),
+                _ => assert!(rt; false),
             }
-            Status::Done => assert_eq!(rt; call, 20),
-            _ => assert!(rt; false),
+            // A file may be added only where none is open.
+            files.add(alloc, "further.tex", b"")?;
         }
     }
     Ok(())

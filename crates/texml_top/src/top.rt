@@ -5,10 +5,12 @@ ghost use Rattle.texml_expand.specs.Held.{Sound, Owns, Holding, state_of};
 ghost use Rattle.texml_top.specs.Request.{asked};
 ghost use Rattle.texml_top.specs.Outcome.{OfOutcome, FromState};
 ghost use Rattle.texml_top.specs.Run.{EndsAs, MayEnd, FilesBlamed, SinkBlamed, FitsWords, TouchesNothing, LimitIs, WritesLate, LateAsked, WritesDocument, DocumentAsked, WritesPage, PageAsked, WholeLines, LinesBy, LinesAsked};
+ghost use Rattle.texml_top.specs.Notes.{Noted};
 ghost use Rattle.texml_top.specs.declared.request.Command.TheVariants.{Convert, Expand};
 
 use crate::digest::digest;
 use crate::document::{Document, model, write_page};
+use crate::notes::noted;
 use crate::request::{Command, read_request};
 use crate::start::start_engine;
 use crate::status::Status;
@@ -25,7 +27,7 @@ use texml_watch::{Lines, Nobody};
 /// text; `Model` with the first thing in the document that the table of elements doesn't allow; `Limit` where one expansion too
 /// many would begin; `ReadFault` and `WriteFault` only where the files or the sink failed in this call; `NoMemory` where
 /// memory was refused. The document is made whole before the first write. A line is written when its expansion is completed.
-/// Nothing is written to `notes` yet.
+/// How it ended is noted as a line, unless it is `Done`; where a write to `notes` fails, nothing more is noted, and all else is as it would be.
 pub fn run<F: Files, S: Sink, N: Sink>(
     alloc: Global,
     words: &[String],
@@ -54,22 +56,22 @@ pub fn run<F: Files, S: Sink, N: Sink>(
     // Words that are no command line are refused, and only they are, before a file is opened; the limit is the one asked for.
     ensures words { FitsWords (asked (map string_bytes words.now)) result }
     ensures untouched { TouchesNothing (asked (map string_bytes words.now)) (F.shelf files.old) (F.shelf files.new) (S.ink out.old) (S.ink out.new) }
-    // Nothing is noted.
-    ensures notes { N.ink notes.new ≡ N.ink notes.old }
+    // The line of the status is noted, or a first part of it where the notes failed.
+    ensures notes { Noted result (N.ink notes.old) (N.ink notes.new) (N.faults notes.old) (N.faults notes.new) }
     // No file is left open.
     ensures closed { (F.shelf files.new).ids ≡ [] }
 {
     let request = match read_request(words) {
         Ok(request) => request,
-        Err(which) => return Status::Usage(which),
+        Err(which) => return noted(notes, Status::Usage(which)),
     };
     let mut engine = match start_engine(alloc, files, request.file, request.limit) {
         Ok(engine) => engine,
-        Err(status) => return status,
+        Err(status) => return noted(notes, status),
     };
     let status = perform(alloc, request.command, &mut engine, files, out);
     engine.input().close_all(files);
-    status
+    noted(notes, status)
 }
 
 // Performs a command on what an engine is to read.

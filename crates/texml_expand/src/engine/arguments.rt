@@ -9,18 +9,19 @@ ghost use Rattle.texml_match.specs.Arguments.{reading, argument as spec_argument
 ghost use Rattle.texml_expand.specs.declared.feeding.Verdict.TheVariants.{TooShort};
 ghost use Rattle.texml_expand.specs.Feeding.{FeedsTold, FedBy};
 ghost use Rattle.texml_expand.specs.Least.{inner_token as spec_inner_token};
-ghost use Rattle.texml_expand.specs.Absorb.{absorb as spec_absorb};
+ghost use Rattle.texml_expand.specs.Absorb.{absorb as spec_absorb, absorb_expanded as spec_absorb_expanded};
 ghost use Rattle.texml_expand.specs.Least.{by_least};
 ghost use Rattle.texml_expand.specs.Braces.{absorbed};
 ghost use Rattle.texml_expand.specs.Hearing.{hears, hears_part, FollowsTold};
 ghost use Rattle.texml_expand.specs.Arguments.{fault_number, read_by, is_sign as spec_is_sign, sign_or_back as spec_sign_or_back, sign as spec_sign, optional as spec_optional};
 ghost use Rattle.texml_expand.specs.Arguments.{means_space as spec_means_space, is_space as spec_is_space, behind_spaces as spec_behind_spaces, first_argument as spec_first_argument};
 ghost use Rattle.texml_expand.specs.Arguments.{macro_arguments as spec_macro_arguments, called as spec_called, read_argument as spec_read_argument, read_optional as spec_read_optional};
+ghost use Rattle.texml_expand.specs.Expand.{level};
 ghost use Rattle.texml_expand.specs.Fronts.{macro_at};
 ghost use Rattle.texml_expand.specs.Matched.{MatchedBy};
 ghost use Rattle.texml_expand.specs.Held.{state_of, world_in, Sound, Kept, Progress, IsAtLimit, ok_at, read_at, ReadWithin, Owns, Holding, SameFiles, Shrinks, Puts};
 ghost use Rattle.texml_expand.specs.Contract.{Local, Reads, AnswersKept, Stops, outside, files_at, stop_after};
-ghost use Rattle.texml_expand.specs.Doing.{Gets, Runs};
+ghost use Rattle.texml_expand.specs.Doing.{Does, Gets, Runs};
 
 use super::Engine;
 use crate::call::{CallArgs, fill};
@@ -72,7 +73,7 @@ impl Engine {
     {
         self.running()?;
         if expanding {
-            self.gather(files, tell, Gathering::Group, 0)
+            self.absorb_expanded(files, tell)
         } else {
             self.absorb_group(files)
         }
@@ -306,7 +307,7 @@ impl Engine {
     }
 
     // One argument with these tokens behind it.
-    fn argument<F: Files>(
+    pub(super) fn argument<F: Files>(
         &mut self,
         files: &mut F,
         long: bool,
@@ -391,7 +392,7 @@ impl Engine {
     }
 
     // The first token behind spaces, which are taken.
-    fn behind_spaces<F: Files>(&mut self, files: &mut F) -> Result<Option<Read>, Stop>
+    pub(super) fn behind_spaces<F: Files>(&mut self, files: &mut F) -> Result<Option<Read>, Stop>
         requires running { self.old.stop ≡ None }
         requires sound { Sound self.old }
         requires owns { Owns (F.shelf files.old) self.old }
@@ -457,6 +458,26 @@ impl Engine {
                 Err(_) => return Err(self.no_memory()),
             }
         }
+    }
+
+    // The tokens up to the brace that ends the group which has begun, expanded. No file may end on the way.
+    fn absorb_expanded<F: Files, T: Teller>(
+        &mut self,
+        files: &mut F,
+        tell: &mut T,
+    ) -> Result<Tokens, Stop>
+        requires running { self.old.stop ≡ None }
+        requires sound { Sound self.old }
+        requires owns { Owns (F.shelf files.old) self.old }
+        ensures does { Does (hears T.wanting T.heard) (hears_part T.wanting T.part)
+            (λ n. spec_absorb_expanded (level n)) (ok_at (tokens_at self.new.names) result) self.old self.new (outside (F.shelf files.old) (F.faults files.old) (T.faults tell.old) (T.loan tell.old)) (outside (F.shelf files.new) (F.faults files.new) (T.faults tell.new) (T.loan tell.new)) tell.old tell.new }
+        ensures lower { IfOk result (λ list. Shrinks (length list + 1) (F.shelf files.old) self.old (F.shelf files.new) self.new) }
+        ensures within { IfOk result (TokensWithin (length self.new.names)) }
+    {
+        self.absorbing = true;
+        let list = self.gather(files, tell, Gathering::Group, 0)?;
+        self.absorbing = false;
+        Ok(list)
     }
 
     // The tokens up to the brace that ends the group which has begun.

@@ -1,6 +1,6 @@
 //! Fetching, expanding and looking at tokens for quantities: these lead back to each other.
 
-ghost use Rattle.std.specs.Prelude.{ℕ, ◌≡◌, ◌+◌, ◌-◌, ◌≤◌, ◌∷◌, ◌++◌, Some, None, [], length, map, IfSome, IsSome, IfOk, OnOk, option_map, option_to_list, pos};
+ghost use Rattle.std.specs.Prelude.{true, false, ℕ, ◌≡◌, ◌+◌, ◌-◌, ◌≤◌, ◌∷◌, ◌++◌, Some, None, [], length, map, IfSome, IsSome, IfOk, OnOk, option_map, option_to_list, pos};
 ghost use Rattle.std.specs.List.{All};
 ghost use Rattle.texml_token.specs.Numbers.{token_at, tokens_at, TokenWithin, TokensWithin, OptionWithin};
 ghost use Rattle.texml_scope.specs.Numbers.{meaning_at, MeaningWithin};
@@ -18,7 +18,7 @@ ghost use Rattle.texml_expand.specs.Expand.{front as spec_front, given as spec_g
 ghost use Rattle.texml_expand.specs.Quantities.{next_looked, as_it_counts, counts_as as spec_counts_as, int_text, dimension_text};
 ghost use Rattle.texml_expand.specs.Variables.{variable_at as spec_variable_at};
 ghost use Rattle.texml_expand.specs.Quantities.{next_internal as spec_next_internal, the as spec_the, internal as spec_internal, internal_of, look as look_in};
-ghost use Rattle.texml_expand.specs.Fronts.{gift_at, GiftWithin, front_at, front_count, FrontWithin, is_undefined as means_nothing, expandable_at, ExpandableWithin, builtin_in, expandable_in, frozen_in, looked_at as looked_at_by, LookedWithin};
+ghost use Rattle.texml_expand.specs.Fronts.{PutsTokens, EndsFront, gift_at, GiftWithin, front_at, front_count, FrontWithin, is_undefined as means_nothing, expandable_at, ExpandableWithin, builtin_in, expandable_in, frozen_in, looked_at as looked_at_by, LookedWithin};
 ghost use Rattle.texml_expand.specs.VariableCodes.{internal_at, InternalWithin, HasNumber};
 ghost use Rattle.texml_expand.specs.declared.engine.expanding.TheConstants.{DEEPEST};
 ghost use Rattle.texml_expand.specs.Machine.{machine_rest};
@@ -41,7 +41,8 @@ use texml_fixed::Scaled;
 use texml_input::Read;
 use texml_scan::{DimenScan, Held, IntScan, Look, looked_at};
 use texml_scope::builtins::{
-    CSNAME, ELSE, EXPANDAFTER, FI, JOBNAME, NOEXPAND, NUMBER, OR, ROMANNUMERAL, STRING, THE,
+    CSNAME, ELSE, ENDINPUT, EXPANDAFTER, FI, INPUT, JOBNAME, NOEXPAND, NUMBER, OR, ROMANNUMERAL,
+    STRING, THE,
 };
 use texml_scope::{Macro, Meaning};
 use texml_token::{Bytes, Name, Token, Tokens, fault_code, show, spell};
@@ -68,6 +69,8 @@ pub(super) enum Expandable {
     RomanNumeral,
     The,
     JobName,
+    Input,
+    EndInput,
     Conditional(Test),
     PartEnd(Word),
 }
@@ -172,10 +175,11 @@ impl Engine {
     ///
     /// # Errors
     ///
-    /// `Tex` with fault 25 where 400 expansions are open, or conditionals too deep in skipped text; of arguments with fault 5
+    /// `Tex` with fault 25 where 400 expansions or 100 files are open, or conditionals too deep in skipped text; of arguments with fault 5
     /// at a token that doesn't match the parameter text, 2 at a brace that ends a group which hasn't begun, and 3 at a `\par`
     /// that may not stand there; 4 where a text ends too early, 15 at an invalid character, 12 at a word of a conditional that
-    /// isn't open, 13 where something else stands before `\endcsname`, and those of `read_int` and `read_dimen`. `Limit` where
+    /// isn't open, 13 where something else stands before `\endcsname` or in the name of a file, 19 where there is no file of its
+    /// name, and those of `read_int` and `read_dimen`. `Limit` where
     /// one expansion too many would begin. `ReadFailed` and `TellFailed` only where the count of faults of `files` or `tell`
     /// rose in this call, `NoMemory` where memory was refused, and the stop that is kept.
     pub fn expand_once<F: Files, T: Teller>(
@@ -218,6 +222,7 @@ impl Engine {
         ensures lower { IfOk result (λ f. Shrinks (front_count f) (F.shelf files.old) self.old (F.shelf files.new) self.new) }
         ensures begun { OnOk result (self.new.begun ≡ self.old.begun) }
         ensures within { IfOk result (FrontWithin (length self.new.names)) }
+        ensures ends { IfOk result (λ f. EndsFront f self.new.input.sources) }
     {
         match self.take_front(files)? {
             None => Ok(Front::Nothing),
@@ -237,6 +242,7 @@ impl Engine {
         ensures limit { IsAtLimit result self.new }
         ensures files { SameFiles self.old self.new }
         ensures count { IfOk result (λ f. front_count f ≡ 1) }
+        ensures ends { IfOk result (λ f. EndsFront f self.new.input.sources) }
         ensures within { IfOk result (FrontWithin (length self.old.names)) }
     {
         if read.frozen {
@@ -300,6 +306,10 @@ impl Engine {
         ensures begins { OnOk result (Begun self.old self.new) }
     {
         self.begin()?;
+        if opens_file(&found) {
+            let name = self.file_name(files, tell, deep)?;
+            return self.open(files, tell, token, &name);
+        }
         let gift = self.given(files, tell, token, found, deep)?;
         self.end(tell, token, gift)
     }
@@ -383,7 +393,7 @@ impl Engine {
         requires back { TokensWithin (length self.old.names) back.now }
         requires told { TokensWithin (length self.old.names) told.now }
         ensures finishes { (shelf : Shelf) → Meets (hears T.wanting T.heard) (hears_part T.wanting T.part)
-            (finish_with (map Tok (tokens_at self.old.names back.now)) (tokens_at self.old.names told.now) (token_at self.old.names token) (state_of shelf self.old)) result (state_of shelf self.new) tell.old tell.new }
+            (finish_with (map Tok (tokens_at self.old.names back.now)) (tokens_at self.old.names told.now) [] (token_at self.old.names token) (state_of shelf self.old)) result (state_of shelf self.new) tell.old tell.new }
         ensures stops { (shelf : Shelf) (faults : ℕ) → Stops result (outside shelf faults (T.faults tell.old) (T.loan tell.old)) (outside shelf faults (T.faults tell.new) (T.loan tell.new)) self.new.stop }
         ensures kept { self.new.stop ≡ stop_after result }
         ensures is { OnOk result (self.new ≡ record self.old { input = record self.old.input { sources = map Plain back.now ++ self.old.input.sources }; nesting = self.old.nesting - 1 }) }
@@ -394,7 +404,8 @@ impl Engine {
         match self.input.push_tokens(back) {
             Ok(()) => {
                 self.nesting -= 1;
-                self.tell_of(tell, token, told)
+                let no_file = Bytes::new(self.alloc);
+                self.tell_of(tell, token, told, &no_file)
             }
             Err(_) => Err(self.no_memory()),
         }
@@ -427,7 +438,8 @@ impl Engine {
         match self.input.back(kept, true) {
             Ok(()) => {
                 self.nesting -= 1;
-                self.tell_of(tell, token, &list)
+                let no_file = Bytes::new(self.alloc);
+                self.tell_of(tell, token, &list, &no_file)
             }
             Err(_) => Err(self.no_memory()),
         }
@@ -439,12 +451,13 @@ impl Engine {
         tell: &mut T,
         token: Token,
         list: &Tokens,
+        file: &Bytes,
     ) -> Result<(), Stop>
         requires running { self.old.stop ≡ None }
         requires token { TokenWithin (length self.old.names) token }
         requires list { TokensWithin (length self.old.names) list.now }
         ensures told { (shelf : Shelf) → Meets (hears T.wanting T.heard) (hears_part T.wanting T.part)
-            (spec_tell (record_of (token_at self.old.names token) (tokens_at self.old.names list.now)) (state_of shelf self.old)) result (state_of shelf self.new) tell.old tell.new }
+            (spec_tell (record_of (token_at self.old.names token) (tokens_at self.old.names list.now) file.now) (state_of shelf self.old)) result (state_of shelf self.new) tell.old tell.new }
         ensures stops { (shelf : Shelf) (faults : ℕ) → Stops result (outside shelf faults (T.faults tell.old) (T.loan tell.old)) (outside shelf faults (T.faults tell.new) (T.loan tell.new)) self.new.stop }
         ensures kept { self.new.stop ≡ stop_after result }
         ensures same { OnOk result (self.new ≡ self.old) }
@@ -455,7 +468,7 @@ impl Engine {
         if !tell.wants() {
             return Ok(());
         }
-        let news = match self.record_of(token, list) {
+        let news = match self.record_of(token, list, file) {
             Ok(news) => news,
             Err(_) => return Err(self.no_memory()),
         };
@@ -470,10 +483,10 @@ impl Engine {
     }
 
     // The record of an expansion.
-    fn record_of(&self, token: Token, list: &Tokens) -> Result<Record, AllocError>
+    fn record_of(&self, token: Token, list: &Tokens, file: &Bytes) -> Result<Record, AllocError>
         requires token { TokenWithin (length self.now.names) token }
         requires list { TokensWithin (length self.now.names) list.now }
-        ensures { IfOk result (λ news. news ≡ record_of (token_at self.now.names token) (tokens_at self.now.names list.now)) }
+        ensures { IfOk result (λ news. news ≡ record_of (token_at self.now.names token) (tokens_at self.now.names list.now) file.now) }
     {
         let mut spelled = Bytes::new(self.alloc);
         spell(token, ESCAPE, &self.names, &mut spelled)?;
@@ -482,7 +495,7 @@ impl Engine {
         Ok(Record {
             token: spelled,
             put: shown,
-            file: Bytes::new(self.alloc),
+            file: file.clone()?,
         })
     }
 
@@ -501,6 +514,7 @@ impl Engine {
         requires owns { Owns (F.shelf files.old) self.old }
         requires token { TokenWithin (length self.old.names) token }
         requires found { ExpandableWithin (length self.old.names) found }
+        requires puts { PutsTokens found }
         ensures does { Does (hears T.wanting T.heard) (hears_part T.wanting T.part)
             (λ n. spec_given (level n) (token_at self.old.names token) (expandable_at self.old.names found)) (ok_at (gift_at self.new.names) result) self.old self.new (outside (F.shelf files.old) (F.faults files.old) (T.faults tell.old) (T.loan tell.old)) (outside (F.shelf files.new) (F.faults files.new) (T.faults tell.new) (T.loan tell.new)) tell.old tell.new }
         ensures lower { OnOk result (Shrinks 0 (F.shelf files.old) self.old (F.shelf files.new) self.new) }
@@ -534,6 +548,8 @@ impl Engine {
                 let list = self.job()?;
                 Ok(Gift::Puts(list))
             }
+            Expandable::Input => unreachable!(),
+            Expandable::EndInput => Ok(self.end_input()),
             Expandable::Conditional(test) => self.conditional(files, tell, test, deep),
             Expandable::PartEnd(word) => self.part_end(files, token, word),
         }
@@ -901,6 +917,17 @@ impl Engine {
     }
 }
 
+// Whether an expansion opens a file.
+fn opens_file(found: &Expandable) -> bool
+    ensures yes { result ≡ true → found.now ≡ Expandable.Input }
+    ensures no { result ≡ false → PutsTokens found.now }
+{
+    match found {
+        Expandable::Input => true,
+        _ => false,
+    }
+}
+
 // Whether a token has no meaning, though it is one that may have one.
 fn is_undefined(meaning: &Option<Meaning>) -> bool
     ensures { result ≡ means_nothing meaning.now }
@@ -935,6 +962,8 @@ fn builtin_at(place: u16) -> Option<Expandable>
         ROMANNUMERAL => Some(Expandable::RomanNumeral),
         THE => Some(Expandable::The),
         JOBNAME => Some(Expandable::JobName),
+        INPUT => Some(Expandable::Input),
+        ENDINPUT => Some(Expandable::EndInput),
         ELSE => Some(Expandable::PartEnd(Word::Else)),
         OR => Some(Expandable::PartEnd(Word::Or)),
         FI => Some(Expandable::PartEnd(Word::Fi)),

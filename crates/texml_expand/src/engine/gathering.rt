@@ -1,17 +1,20 @@
 //! Gathering tokens that are expanded as they come.
 
-ghost use Rattle.std.specs.Prelude.{◌≡◌, ◌∷◌, ◌++◌, ◌-◌, ◌≤◌, [], ℕ, None, Some, length, IfOk, OnOk};
+ghost use Rattle.std.specs.Prelude.{◌≡◌, ◌∷◌, ◌++◌, ◌-◌, ◌≤◌, [], ℕ, None, Some, false, length, IfOk, OnOk};
 ghost use Rattle.texml_base.specs.Outside.{Shelf};
 ghost use Rattle.texml_token.specs.Numbers.{Table, token_at, tokens_at, TokenWithin, TokensWithin};
 ghost use Rattle.texml_scope.specs.Texts.{World};
 ghost use Rattle.texml_scope.specs.Numbers.{meaning_at};
-ghost use Rattle.texml_expand.specs.Gathering.{doubled as doubled_list, copies as spec_copies, copied as spec_copied, kept_of, returned as spec_returned, ends_name as spec_ends_name, is_relation as spec_is_relation, judged as spec_judged, of_relation as spec_of_relation};
+ghost use Rattle.texml_expand.specs.State.{change};
+ghost use Rattle.texml_expand.specs.Least.{decided};
+ghost use Rattle.texml_expand.specs.Take.{back as spec_back};
+ghost use Rattle.texml_expand.specs.Gathering.{left, at_end as spec_at_end, of_file_name as spec_of_file_name, named_file, doubled as doubled_list, copies as spec_copies, copied as spec_copied, kept_of, returned as spec_returned, ends_name as spec_ends_name, is_relation as spec_is_relation, judged as spec_judged, of_relation as spec_of_relation};
 ghost use Rattle.texml_expand.specs.Quantities.{counts_as as spec_counts_as, shown as spec_shown};
-ghost use Rattle.texml_expand.specs.Fronts.{gathered_count, at_once, expandable_at, ExpandableWithin, verdict_at, VerdictWithin, PartsWithin};
+ghost use Rattle.texml_expand.specs.Fronts.{gathered_count, left_count, EndsGathering, at_once, expandable_at, ExpandableWithin, verdict_at, VerdictWithin, PartsWithin};
 ghost use Rattle.texml_expand.specs.VariableCodes.{internal_at, InternalWithin};
 ghost use Rattle.texml_expand.specs.Expand.{level};
-ghost use Rattle.texml_expand.specs.Held.{state_of, world_in, Sound, Kept, Progress, IsAtLimit, ok_at, read_at, Owns, SameFiles, Shrinks, Begun};
-ghost use Rattle.texml_expand.specs.Contract.{Stops, outside, stop_after};
+ghost use Rattle.texml_expand.specs.Held.{state_of, world_in, Sound, Kept, Progress, IsAtLimit, ok_at, read_at, Owns, SameFiles, Shrinks, Begun, Puts};
+ghost use Rattle.texml_expand.specs.Contract.{Local, Stops, outside, stop_after};
 ghost use Rattle.texml_expand.specs.Hearing.{hears, hears_part, Meets};
 ghost use Rattle.texml_expand.specs.Doing.{Does};
 
@@ -28,7 +31,7 @@ use texml_base::Files;
 use texml_input::Read;
 use texml_scope::Meaning;
 use texml_scope::builtins::ENDCSNAME;
-use texml_token::{Token, Tokens, fault_code};
+use texml_token::{Token, Tokens, category, fault_code};
 use texml_watch::Teller;
 
 // The codes of the relations between numbers: <, = and >.
@@ -55,12 +58,13 @@ impl Engine {
             (λ n. (level n).gather gathering []) (ok_at (tokens_at self.new.names) result) self.old self.new (outside (F.shelf files.old) (F.faults files.old) (T.faults tell.old) (T.loan tell.old)) (outside (F.shelf files.new) (F.faults files.new) (T.faults tell.new) (T.loan tell.new)) tell.old tell.new }
         ensures lower { IfOk result (λ list. Shrinks (gathered_count gathering list) (F.shelf files.old) self.old (F.shelf files.new) self.new) }
         ensures within { IfOk result (TokensWithin (length self.new.names)) }
+        ensures ends { OnOk result (EndsGathering gathering self.new.input.sources) }
     {
         let mut gathered = Gathered::new(self.alloc);
         'rounds: loop {
             'tokens: loop {
                 match self.front(files)? {
-                    Front::Nothing => return Err(self.bare_fault(fault_code::FILE_ENDED)),
+                    Front::Nothing => return self.at_end(gathering, &gathered),
                     Front::Plain(read) => {
                         let verdict = match self.judged(gathering, &gathered, read) {
                             Ok(verdict) => verdict,
@@ -71,7 +75,10 @@ impl Engine {
                                 Ok(()) => {}
                                 Err(_) => return Err(self.no_memory()),
                             },
-                            Verdict::Yields(list) => return Ok(list),
+                            Verdict::Yields(list) => {
+                                self.leave(gathering, read.token)?;
+                                return Ok(list);
+                            }
                             Verdict::Refuses(code) => return Err(self.bare_fault(code)),
                         }
                     }
@@ -85,6 +92,71 @@ impl Engine {
                     }
                 }
             }
+        }
+    }
+
+    // What the end of the text decides.
+    fn at_end(&mut self, gathering: Gathering, gathered: &Gathered) -> Result<Tokens, Stop>
+        requires running { self.old.stop ≡ None }
+        requires sound { Sound self.old }
+        requires list { TokensWithin (length self.old.names) gathered.now }
+        ensures ends { Local (decided (spec_at_end gathering (tokens_at self.old.names gathered.now))) (ok_at (tokens_at self.new.names) result) self.old self.new }
+        ensures kept { self.new.stop ≡ stop_after result }
+        ensures progress { Progress self.old self.new }
+        ensures limit { IsAtLimit result self.new }
+        ensures files { SameFiles self.old self.new }
+        ensures keeps { OnOk result (Kept self.old self.new) }
+        ensures same { OnOk result (self.new ≡ self.old) }
+        ensures counts { IfOk result (λ list. gathered_count gathering list ≡ 0) }
+        ensures within { IfOk result (TokensWithin (length self.new.names)) }
+    {
+        match gathering {
+            Gathering::All => match gathered.tokens() {
+                Ok(list) => Ok(list),
+                Err(_) => Err(self.no_memory()),
+            },
+            _ => Err(self.bare_fault(fault_code::FILE_ENDED)),
+        }
+    }
+
+    // The token that ends the name of a file goes back, unless it is a space.
+    fn leave(&mut self, gathering: Gathering, token: Token) -> Result<(), Stop>
+        requires running { self.old.stop ≡ None }
+        requires sound { Sound self.old }
+        requires token { TokenWithin (length self.old.names) token }
+        ensures leaves { Local (change (left gathering (token_at self.old.names token))) result self.old self.new }
+        ensures kept { self.new.stop ≡ stop_after result }
+        ensures progress { Progress self.old self.new }
+        ensures limit { IsAtLimit result self.new }
+        ensures files { SameFiles self.old self.new }
+        ensures keeps { OnOk result (Kept self.old self.new) }
+        ensures puts { OnOk result (Puts (left_count gathering) self.old self.new) }
+        ensures names { OnOk result (self.new.names ≡ self.old.names) }
+    {
+        match (gathering, token) {
+            (Gathering::FileName, Token::Char(_, _)) => Ok(()),
+            (Gathering::FileName, token) => self.put_back(token),
+            _ => Ok(()),
+        }
+    }
+
+    // A token goes back.
+    fn put_back(&mut self, token: Token) -> Result<(), Stop>
+        requires running { self.old.stop ≡ None }
+        requires sound { Sound self.old }
+        requires token { TokenWithin (length self.old.names) token }
+        ensures puts_back { Local (change (spec_back (token_at self.old.names token) false)) result self.old self.new }
+        ensures kept { self.new.stop ≡ stop_after result }
+        ensures progress { Progress self.old self.new }
+        ensures limit { IsAtLimit result self.new }
+        ensures files { SameFiles self.old self.new }
+        ensures keeps { OnOk result (Kept self.old self.new) }
+        ensures puts { OnOk result (Puts 1 self.old self.new) }
+        ensures names { OnOk result (self.new.names ≡ self.old.names) }
+    {
+        match self.input.back(token, false) {
+            Ok(()) => Ok(()),
+            Err(_) => Err(self.no_memory()),
         }
     }
 
@@ -189,6 +261,8 @@ impl Engine {
             Gathering::Name => self.of_name(gathered, read),
             Gathering::Relation => self.of_relation(read),
             Gathering::Group => of_group(gathered, read),
+            Gathering::FileName => of_file_name(self.alloc, gathered, read.token),
+            Gathering::All => Ok(Verdict::TooShort),
         }
     }
 
@@ -226,6 +300,34 @@ impl Engine {
             return Ok(Verdict::Yields(list));
         }
         Ok(Verdict::Refuses(fault_code::MISSING_NUMBER))
+    }
+}
+
+// A character belongs to the name of a file, a space ends it, and so does another token.
+fn of_file_name(
+    alloc: Global,
+    gathered: &Gathered,
+    token: Token,
+) -> Result<Verdict<Tokens>, AllocError>
+    ensures is { IfOk result (λ v. (texts : Table) → verdict_at texts v ≡ spec_of_file_name (tokens_at texts gathered.now) (token_at texts token)) }
+    ensures within { IfOk result (λ v. (count : ℕ) → TokensWithin count gathered.now → VerdictWithin count v) }
+{
+    match token {
+        Token::Char(_, category::SPACE) => Ok(begun_name(gathered.file_part(alloc)?)),
+        Token::Char(_, _) => Ok(Verdict::TooShort),
+        _ => Ok(Verdict::Yields(gathered.file_part(alloc)?)),
+    }
+}
+
+// The name is complete, if it has begun.
+fn begun_name(name: Tokens) -> Verdict<Tokens>
+    ensures is { (texts : Table) → verdict_at texts result ≡ named_file (tokens_at texts name) Verdict.TooShort }
+    ensures within { (count : ℕ) → TokensWithin count name → VerdictWithin count result }
+{
+    if name.as_slice().is_empty() {
+        Verdict::TooShort
+    } else {
+        Verdict::Yields(name)
     }
 }
 

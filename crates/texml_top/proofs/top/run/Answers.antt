@@ -8,12 +8,12 @@ use Rattle.texml_top.proofs.top.run.Goals as goal
 
 -- words that are no command line
 pub returns-in-Err-clause-outcome : goal.returns-in-Err-clause-outcome
-returns-in-Err-clause-outcome g c = λ told read wrote memory.
-    of_words (map string_bytes c.args.words.now) (g.F.Files.shelf c.args.files.now).contents c.in-Err.which _ c.in-Err.ensures (refused_ends (Usage c.in-Err.which) (g.S.Sink.ink c.args.out.now))
+returns-in-Err-clause-outcome g c = λ told read wrote memory. rw c.noted.ensures.is
+    (of_words (map string_bytes c.args.words.now) (g.F.Files.shelf c.args.files.now).contents c.in-Err.which _ c.in-Err.ensures (refused_ends (Usage c.in-Err.which) (g.S.Sink.ink c.args.out.now)))
 
 pub returns-in-Err-clause-meets : goal.returns-in-Err-clause-meets
-returns-in-Err-clause-meets g c = λ told.
-    of_words (map string_bytes c.args.words.now) (g.F.Files.shelf c.args.files.now).contents c.in-Err.which _ c.in-Err.ensures (refused_ends (Usage c.in-Err.which) (g.S.Sink.ink c.args.out.now))
+returns-in-Err-clause-meets g c = λ told. rw c.noted.ensures.is
+    (of_words (map string_bytes c.args.words.now) (g.F.Files.shelf c.args.files.now).contents c.in-Err.which _ c.in-Err.ensures (refused_ends (Usage c.in-Err.which) (g.S.Sink.ink c.args.out.now)))
 
 pub returns-in-Err-clause-page : goal.returns-in-Err-clause-page
 returns-in-Err-clause-page g c = λ told.
@@ -38,26 +38,28 @@ returns-in-Err-start_engine-clause-outcome g c = λ told read wrote memory.
     let status = c.in-Err-start_engine.status in
     let now = g.F.Files.shelf c.start_engine.new.files in
     let starts = c.in-Err-start_engine.ensures.starts in
-    with_weaker _ (λ all may. ends_exactly status all ink ink _ _ _ _ c.in-Err-start_engine.ensures.blames (start_sink shelf now request.file request.limit status (g.S.Sink.faults c.args.out.now) starts) read wrote memory may)
-    (start_meets words shelf now request c.in-Ok.ensures status ink starts told)
+    let short = rw c.noted-in-Err-start_engine.ensures.is at memory in
+    rw c.noted-in-Err-start_engine.ensures.is
+    (with_weaker _ (λ all may. ends_exactly status all ink ink _ _ _ _ c.in-Err-start_engine.ensures.blames (start_sink shelf now request.file request.limit status (g.S.Sink.faults c.args.out.now) starts) read wrote short may)
+    (start_meets words shelf now request c.in-Ok.ensures status ink starts told))
 
 pub returns-in-Err-start_engine-clause-meets : goal.returns-in-Err-start_engine-clause-meets
-returns-in-Err-start_engine-clause-meets g c = λ told.
-    start_meets (map string_bytes c.args.words.now) (g.F.Files.shelf c.args.files.now) (g.F.Files.shelf c.start_engine.new.files) (read_as c.in-Ok.request) c.in-Ok.ensures _ (g.S.Sink.ink c.args.out.now) c.in-Err-start_engine.ensures.starts told
+returns-in-Err-start_engine-clause-meets g c = λ told. rw c.noted-in-Err-start_engine.ensures.is
+    (start_meets (map string_bytes c.args.words.now) (g.F.Files.shelf c.args.files.now) (g.F.Files.shelf c.start_engine.new.files) (read_as c.in-Ok.request) c.in-Ok.ensures _ (g.S.Sink.ink c.args.out.now) c.in-Err-start_engine.ensures.starts told)
 
 pub returns-in-Err-start_engine-clause-page : goal.returns-in-Err-start_engine-clause-page
 returns-in-Err-start_engine-clause-page g c = λ told.
     let words = map string_bytes c.args.words.now in
     let shelf = g.F.Files.shelf c.args.files.now in
     let request = read_as c.in-Ok.request in
-    of_any words shelf.contents _
-    (λ all. asked_page (asked words) request _ all c.in-Ok.ensures (start_page words shelf (g.F.Files.shelf c.start_engine.new.files) request c.in-Ok.ensures request.command _ all c.in-Err-start_engine.ensures.starts))
+    rw c.noted-in-Err-start_engine.ensures.is (of_any words shelf.contents _
+    (λ all. asked_page (asked words) request _ all c.in-Ok.ensures (start_page words shelf (g.F.Files.shelf c.start_engine.new.files) request c.in-Ok.ensures request.command _ all c.in-Err-start_engine.ensures.starts)))
 
 pub returns-in-Err-start_engine-clause-document : goal.returns-in-Err-start_engine-clause-document
 returns-in-Err-start_engine-clause-document g c =
     let request = read_as c.in-Ok.request in
-    asked_document (asked (map string_bytes c.args.words.now)) request _ _ _ c.in-Ok.ensures
-    (start_document (g.F.Files.shelf c.args.files.now) (g.F.Files.shelf c.start_engine.new.files) request.file request.limit request.command _ _ c.in-Err-start_engine.ensures.starts)
+    rw c.noted-in-Err-start_engine.ensures.is (asked_document (asked (map string_bytes c.args.words.now)) request _ _ _ c.in-Ok.ensures
+    (start_document (g.F.Files.shelf c.args.files.now) (g.F.Files.shelf c.start_engine.new.files) request.file request.limit request.command _ _ c.in-Err-start_engine.ensures.starts))
 
 pub returns-in-Err-start_engine-clause-lines : goal.returns-in-Err-start_engine-clause-lines
 returns-in-Err-start_engine-clause-lines g c = λ told wrote.
@@ -71,30 +73,31 @@ pub returns-clause-outcome : goal.returns-clause-outcome
 returns-clause-outcome g c = λ told read wrote memory.
     let files = subst (λ n. FilesBlamed c.perform-status.result n (g.F.Files.faults c.perform-status.new.files)) c.in-Ok-start_engine.ensures.blames c.perform-status.ensures.files_cause in
     let blamed = subst (FilesBlamed c.perform-status.result (g.F.Files.faults c.args.files.now)) (sym c.close_all.ensures.faults) files in
-    with_weaker _ (λ all may. ends_exactly c.perform-status.result all _ _ _ _ _ _ blamed c.perform-status.ensures.out_cause read wrote memory may)
+    let short = rw c.noted-2.ensures.is at memory in
+    rw c.noted-2.ensures.is (with_weaker _ (λ all may. ends_exactly c.perform-status.result all _ _ _ _ _ _ blamed c.perform-status.ensures.out_cause read wrote short may)
     (started (map string_bytes c.args.words.now) (g.F.Files.shelf c.args.files.now).contents (read_as c.in-Ok.request) (g.F.Files.shelf c.start_engine.new.files) c.in-Ok-start_engine.engine _ c.in-Ok.ensures
-    (c.in-Ok-start_engine.ensures.starts told) (c.perform-status.ensures.meets (subst IsTrue (sym c.in-Ok-start_engine.ensures.same.tells) told)))
+    (c.in-Ok-start_engine.ensures.starts told) (c.perform-status.ensures.meets (subst IsTrue (sym c.in-Ok-start_engine.ensures.same.tells) told))))
 
 pub returns-clause-meets : goal.returns-clause-meets
-returns-clause-meets g c = λ told.
-    started (map string_bytes c.args.words.now) (g.F.Files.shelf c.args.files.now).contents (read_as c.in-Ok.request) (g.F.Files.shelf c.start_engine.new.files) c.in-Ok-start_engine.engine _ c.in-Ok.ensures
-    (c.in-Ok-start_engine.ensures.starts told) (c.perform-status.ensures.meets (subst IsTrue (sym c.in-Ok-start_engine.ensures.same.tells) told))
+returns-clause-meets g c = λ told. rw c.noted-2.ensures.is
+    (started (map string_bytes c.args.words.now) (g.F.Files.shelf c.args.files.now).contents (read_as c.in-Ok.request) (g.F.Files.shelf c.start_engine.new.files) c.in-Ok-start_engine.engine _ c.in-Ok.ensures
+    (c.in-Ok-start_engine.ensures.starts told) (c.perform-status.ensures.meets (subst IsTrue (sym c.in-Ok-start_engine.ensures.same.tells) told)))
 
 pub returns-clause-files_cause : goal.returns-clause-files_cause
 returns-clause-files_cause g c =
     let files = subst (λ n. FilesBlamed c.perform-status.result n (g.F.Files.faults c.perform-status.new.files)) c.in-Ok-start_engine.ensures.blames c.perform-status.ensures.files_cause in
-    subst (FilesBlamed c.perform-status.result (g.F.Files.faults c.args.files.now)) (sym c.close_all.ensures.faults) files
+    rw c.noted-2.ensures.is (subst (FilesBlamed c.perform-status.result (g.F.Files.faults c.args.files.now)) (sym c.close_all.ensures.faults) files)
 
 pub returns-clause-page : goal.returns-clause-page
 returns-clause-page g c = λ told.
     let words = map string_bytes c.args.words.now in
     let request = read_as c.in-Ok.request in
-    with_weaker _ (λ all h. asked_page (asked words) request _ all c.in-Ok.ensures h)
+    rw c.noted-2.ensures.is (with_weaker _ (λ all h. asked_page (asked words) request _ all c.in-Ok.ensures h)
     (started words (g.F.Files.shelf c.args.files.now).contents request (g.F.Files.shelf c.start_engine.new.files) c.in-Ok-start_engine.engine _ c.in-Ok.ensures (c.in-Ok-start_engine.ensures.starts told)
-    (c.perform-status.ensures.page (subst IsTrue (sym c.in-Ok-start_engine.ensures.same.tells) told)))
+    (c.perform-status.ensures.page (subst IsTrue (sym c.in-Ok-start_engine.ensures.same.tells) told))))
 
 pub returns-clause-document : goal.returns-clause-document
-returns-clause-document g c = asked_document (asked (map string_bytes c.args.words.now)) (read_as c.in-Ok.request) _ _ _ c.in-Ok.ensures c.perform-status.ensures.document
+returns-clause-document g c = rw c.noted-2.ensures.is (asked_document (asked (map string_bytes c.args.words.now)) (read_as c.in-Ok.request) _ _ _ c.in-Ok.ensures c.perform-status.ensures.document)
 
 pub returns-clause-lines : goal.returns-clause-lines
 returns-clause-lines g c = λ told wrote.

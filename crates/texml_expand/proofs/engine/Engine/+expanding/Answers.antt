@@ -17,7 +17,7 @@ use Rattle.texml_expand.specs.Hearing.{hears, hears_part}
 use Rattle.texml_expand.proofs.Lawful.{lawful_give, lawful_scan, lawful_fetch}
 use Rattle.texml_expand.proofs.Looking.{lawful_character, lawful_register, value, lawful_value, lawful_index, lawful_look, lawful_key, lawful_internal_of, lawful_internal, counts, lawful_counts, lawful_take}
 use Rattle.texml_expand.proofs.Doing.{by_new, did_silent, did_gets, does_silent, does_gets, does_as, does_now, does_stop, does_then, does_out, does_fault, did_out}
-use Rattle.texml_expand.proofs.Rounds.{index_as, front_did, given_as, begins_did, finish_did, expand_stops, expand_ungiven, expand_ends, fetch_stops, fetch_ends, fetch_plain, fetching_on, fetch_unexpanded, looked_as}
+use Rattle.texml_expand.proofs.Rounds.{expand_same, expand_unnamed, expand_opens, index_as, front_did, given_as, begins_did, finish_did, expand_stops, expand_ungiven, expand_ends, fetch_stops, fetch_ends, fetch_plain, fetching_on, fetch_unexpanded, looked_as}
 use Rattle.texml_scope.specs.Numbers.{key_at, meaning_at}
 use Rattle.texml_expand.specs.VariableCodes.{internal_at}
 use Rattle.texml_expand.specs.declared.machine.Value.TheVariants as worths
@@ -30,7 +30,7 @@ use Rattle.texml_expand.specs.Take.{take}
 use Rattle.texml_expand.specs.Doing.{Does}
 use Rattle.texml_expand.proofs.Total.{total}
 use Rattle.texml_expand.proofs.Progress.{progress_itself}
-use Rattle.texml_expand.proofs.Fronts.{kept_itself, begun_kept}
+use Rattle.texml_expand.proofs.Fronts.{kept_itself, begun_kept, opened_begun}
 use Rattle.texml_scan.specs.Looked.{look_of}
 use Rattle.texml_scan.specs.declared.looks.Held.TheVariants.{Nothing}
 use Rattle.texml_expand.proofs.Stopping.{passed_on}
@@ -58,7 +58,7 @@ use Rattle.texml_expand.proofs.Testing.{face_stops, face_ends, face_out, face_do
 use Rattle.texml_expand.proofs.Worth.{dimen_same}
 use Rattle.texml_token.specs.declared.fault_code.TheConstants.{FILE_ENDED}
 use Rattle.texml_token.proofs.Translation.{token_more}
-use Rattle.texml_expand.specs.Calls.{Puts}
+use Rattle.texml_expand.specs.Calls.{Input, Puts}
 use Rattle.texml_expand.specs.Front as fronts
 use Rattle.texml_expand.specs.Expansion.{one_token, behind_first}
 use Rattle.texml_expand.specs.Names.{name_of}
@@ -66,10 +66,17 @@ use Rattle.texml_expand.specs.Fronts.{gift_at}
 use Rattle.texml_expand.proofs.Standing.{lawful_front}
 use Rattle.texml_expand.proofs.Giving.{lawful_one_token, lawful_behind_first, lawful_name_of}
 use Rattle.texml_expand.proofs.Running.{ok_puts}
-use Rattle.texml_expand.proofs.Behind.{after_stops, after_first, second_stops, second_is, behind_plain, behind_stops, behind_expands, name_stops, name_does}
+use Rattle.texml_expand.proofs.Behind.{gathered_left, yields_ends, ended_shrinks, ended_ends, after_stops, after_first, second_stops, second_is, behind_plain, behind_stops, behind_expands, name_stops, name_does}
 use Rattle.texml_expand.specs.Front.{Plain}
 use Rattle.texml_expand.specs.Gathering.{copies}
-use Rattle.texml_expand.proofs.Gathered.{gather_stops, gather_ends, gather_broken, gather_yields, gather_refuses, gathers_token, gathers_expansion, gather_unexpanded, gather_short, once_stops, once_expanded}
+use Rattle.texml_expand.proofs.Gathered.{gather_stops, gather_ends, gather_broken, gather_unleft, gather_yields, gather_refuses, gathers_token, gathers_expansion, gather_unexpanded, gather_short, once_stops, once_expanded}
+use Rattle.std.specs.Prelude.{string_bytes}
+use Rattle.texml_expand.specs.Include.{peeked, bytes_of, argument_alone, characters, file_name, end_input}
+use Rattle.texml_expand.proofs.Including.{lawful_peeked, lawful_argument_alone, lawful_characters, lawful_end_input}
+use Rattle.texml_expand.proofs.FileNames.{name_unseen, name_seen, plain_stops, plain_does, argument_stops, argument_unread, argument_does, left_stops, left_does, up_does, unfenced_shrinks}
+use Rattle.texml_input.specs.Held.{IsAtFence}
+use Rattle.texml_expand.specs.contracts.engine.Engine.{the_view}
+use Rattle.texml_expand.specs.declared.gathering.Gathering.TheVariants.{All}
 use Rattle.texml_expand.proofs.engine.Engine.+expanding.Goals as goal
 
 pub expand-returns-clause-does : goal.expand-returns-clause-does
@@ -259,6 +266,18 @@ given-returns-in_ok-list-in-RomanNumeral-clause-does g t c =
     let tok = token_at mine.names c.args.token in
     let d = puts_does (hears T.wanting T.heard) (hears_part T.wanting T.part) roman_numeral lawful_roman_numeral _ _ _ _ _ _ _ c.in_ok-list-in-RomanNumeral.ensures.does in
     given_as (hears T.wanting T.heard) (hears_part T.wanting T.part) tok tok _ (expandable_at mine.names c.args.found) _ _ _ _ _ _ _ refl (ap (expandable_at mine.names) c.in-RomanNumeral.is) d
+
+pub given-returns-in-EndInput-clause-does : goal.given-returns-in-EndInput-clause-does
+given-returns-in-EndInput-clause-does g t c =
+    let T = g.T.Teller in
+    let F = g.F.Files in
+    let mine = c.args.self.now in
+    let new = c.end_input.new.self in
+    let e = c.end_input.ensures in
+    let shelf = F.shelf c.args.files.now in
+    let out = outside shelf (F.faults c.args.files.now) (T.faults c.args.tell.now) (T.loan c.args.tell.now) in
+    given_as (hears T.wanting T.heard) (hears_part T.wanting T.part) _ (token_at mine.names c.args.token) _ _ _ _ _ _ _ _ _ refl (ap (expandable_at mine.names) c.in-EndInput.is)
+    (does_silent (hears T.wanting T.heard) (hears_part T.wanting T.part) (λ c'. end_input) lawful_end_input (Ok (gift_at new.names c.end_input.result)) mine new out c.args.tell.now (e.ends shelf) (e.running ∙ c.requires.running) tt e.keeps e.progress e.files c.requires.owns)
 
 pub given-returns-in_err-list-in-The-clause-does : goal.given-returns-in_err-list-in-The-clause-does
 given-returns-in_err-list-in-The-clause-does g t c =
@@ -858,7 +877,7 @@ expand-given-requires g t c κs within =
     let token = subst (λ (h : Held). TokenWithin (length h.names) c.args.token) (sym b.is) c.requires.token in
     let nesting = ap (λ (h : Held). h.nesting) b.is in
     let deep = b.nested in
-    (omega (arith, c.decreases, nesting, deep), (within.0, (within.1, (b.kept, (kept.sound, (owns, (token, found)))))))
+    (omega (arith, c.decreases, nesting, deep), (within.0, (within.1, (b.kept, (kept.sound, (owns, (token, (found, c.opens_file.ensures.no c.if-opens_file.false))))))))
 
 pub the-returns-clause-lower : goal.the-returns-clause-lower
 the-returns-clause-lower g t c = ok_same c.shown.result 0 _ _ _ c.next_internal.new.self c.shown.new.self c.in_ok-internal.ensures.lower c.shown.ensures.same
@@ -1294,8 +1313,18 @@ gather-returns-in-Nothing-clause-does g t c =
     let mid = c.front.new.self in
     let tell = c.tokens.tell in
     let d = front_did (hears T.wanting T.heard) (hears_part T.wanting T.part) _ _ c.tokens.self mid _ _ _ _ (T.faults tell) (T.loan tell) tell c.in-Nothing.is c.in_ok-front.ensures.gets in
-    let e = c.bare_fault.ensures in
-    gather_ends (hears T.wanting T.heard) (hears_part T.wanting T.part) c.args.gathering _ _ _ mid _ _ _ _ _ _ _ i d e.is e.kept
+    let e = c.at_end.ensures in
+    gather_ends (hears T.wanting T.heard) (hears_part T.wanting T.part) c.args.gathering c.at_end.result _ _ mid c.at_end.new.self _ _ _ _ _ _ i d e.ends e.kept e.limit e.keeps e.progress e.files
+
+pub gather-returns-in-Nothing-clause-lower : goal.gather-returns-in-Nothing-clause-lower
+gather-returns-in-Nothing-clause-lower g t c =
+    let low = rw c.in-Nothing.is at c.in_ok-front.ensures.lower in
+    ended_shrinks c.args.gathering c.at_end.result _ _ _ _ _ _ c.front.new.self c.at_end.new.self c.tokens.invariant.on.lower low c.at_end.ensures.same c.at_end.ensures.counts
+
+pub gather-returns-in-Nothing-clause-ends : goal.gather-returns-in-Nothing-clause-ends
+gather-returns-in-Nothing-clause-ends g t c =
+    let at = rw c.in-Nothing.is at c.in_ok-front.ensures.ends in
+    ended_ends c.args.gathering c.at_end.result c.front.new.self c.at_end.new.self at c.at_end.ensures.same
 
 pub gather-returns-in-Err-clause-does : goal.gather-returns-in-Err-clause-does
 gather-returns-in-Err-clause-does g t c =
@@ -1321,6 +1350,19 @@ gather-returns-in-Err-push-clause-does g t c =
     let e = c.no_memory-in-Err-push.ensures in
     gather_broken (hears T.wanting T.heard) (hears_part T.wanting T.part) c.args.gathering (Plain (read_at mid.names c.in-Plain.read)) _ _ _ mid _ _ _ _ _ _ _ _ _ i d (did_out (hears T.wanting T.heard) (hears_part T.wanting T.part) _ c.no_memory-in-Err-push.result mid c.no_memory-in-Err-push.new.self (outside (F.shelf files) (F.faults files) (T.faults tell) (T.loan tell)) tell e.is e.kept d.holds.owns)
 
+pub gather-returns-in_err-leave-in-Yields-clause-does : goal.gather-returns-in_err-leave-in-Yields-clause-does
+gather-returns-in_err-leave-in-Yields-clause-does g t c =
+    let T = g.T.Teller in
+    let F = g.F.Files in
+    let i = c.tokens.invariant.on in
+    let mid = c.front.new.self in
+    let tell = c.tokens.tell in
+    let d = front_did (hears T.wanting T.heard) (hears_part T.wanting T.part) _ _ c.tokens.self mid _ _ _ _ (T.faults tell) (T.loan tell) tell c.in-Plain.is c.in_ok-front.ensures.gets in
+    let is = rw c.in-Yields.is at c.in-Ok.ensures.is in
+    let e = c.in_err-leave-in-Yields.ensures in
+    let h = gather_unleft (hears T.wanting T.heard) (hears_part T.wanting T.part) c.args.gathering _ (tokens_at mid.names c.in-Yields.list) c.in-Plain.read _ _ mid c.leave.new.self _ _ _ _ _ _ i d is e.leaves e.kept e.limit e.progress e.files in
+    rw (passed_on c.from_residual-in_err-leave-in-Yields.result c.in_err-leave-in-Yields.field-0.0 c.from_residual-in_err-leave-in-Yields.ensures) h
+
 pub gather-returns-in-Yields-clause-does : goal.gather-returns-in-Yields-clause-does
 gather-returns-in-Yields-clause-does g t c =
     let T = g.T.Teller in
@@ -1330,7 +1372,21 @@ gather-returns-in-Yields-clause-does g t c =
     let tell = c.tokens.tell in
     let d = front_did (hears T.wanting T.heard) (hears_part T.wanting T.part) _ _ c.tokens.self mid _ _ _ _ (T.faults tell) (T.loan tell) tell c.in-Plain.is c.in_ok-front.ensures.gets in
     let is = rw c.in-Yields.is at c.in-Ok.ensures.is in
-    gather_yields (hears T.wanting T.heard) (hears_part T.wanting T.part) c.args.gathering (tokens_at mid.names c.in-Yields.list) c.in-Plain.read _ _ mid _ _ _ _ _ _ i d is
+    let e = c.in_ok-leave-in-Yields.ensures in
+    gather_yields (hears T.wanting T.heard) (hears_part T.wanting T.part) c.args.gathering c.in-Yields.list c.in-Plain.read _ _ mid c.leave.new.self _ _ _ _ _ _ i d is e.leaves e.kept e.keeps e.progress e.files e.names
+
+pub gather-returns-in-Yields-clause-lower : goal.gather-returns-in-Yields-clause-lower
+gather-returns-in-Yields-clause-lower g t c =
+    let mid = c.front.new.self in
+    let is = rw c.in-Yields.is at c.in-Ok.ensures.is in
+    let low = rw c.in-Plain.is at c.in_ok-front.ensures.lower in
+    gathered_left c.args.gathering mid.names _ _ c.in-Yields.list c.in-Plain.read _ _ _ _ _ mid c.leave.new.self c.tokens.invariant.on.lower low is c.in_ok-leave-in-Yields.ensures.puts
+
+pub gather-returns-in-Yields-clause-ends : goal.gather-returns-in-Yields-clause-ends
+gather-returns-in-Yields-clause-ends g t c =
+    let mid = c.front.new.self in
+    let is = rw c.in-Yields.is at c.in-Ok.ensures.is in
+    yields_ends c.args.gathering _ _ (tokens_at mid.names c.in-Yields.list) (read_at mid.names c.in-Plain.read) c.leave.new.self.input.sources is
 
 pub gather-returns-in-Refuses-clause-does : goal.gather-returns-in-Refuses-clause-does
 gather-returns-in-Refuses-clause-does g t c =
@@ -1341,7 +1397,7 @@ gather-returns-in-Refuses-clause-does g t c =
     let tell = c.tokens.tell in
     let d = front_did (hears T.wanting T.heard) (hears_part T.wanting T.part) _ _ c.tokens.self mid _ _ _ _ (T.faults tell) (T.loan tell) tell c.in-Plain.is c.in_ok-front.ensures.gets in
     let is = rw c.in-Refuses.is at c.in-Ok.ensures.is in
-    let e = c.bare_fault-in-Refuses.ensures in
+    let e = c.bare_fault.ensures in
     gather_refuses (hears T.wanting T.heard) (hears_part T.wanting T.part) c.args.gathering c.in-Refuses.code _ c.in-Plain.read _ _ mid _ _ _ _ _ _ _ i d is e.is e.kept
 
 pub gather-tokens-preserved : goal.gather-tokens-preserved
@@ -1461,3 +1517,180 @@ copy-next_internal-requires g t c κs within =
     let nesting = ap (λ (h : Held). h.nesting) b.is in
     let deep = b.nested in
     (omega (arith, c.decreases, nesting, deep), (within.0, (within.1, (b.kept, (kept.sound, owns)))))
+
+-- The names of files
+
+pub file_name-returns-in_err-read-clause-does : goal.file_name-returns-in_err-read-clause-does
+file_name-returns-in_err-read-clause-does g t c =
+    let T = g.T.Teller in
+    let F = g.F.Files in
+    let tell = c.args.tell.now in
+    let d = does_gets (hears T.wanting T.heard) (hears_part T.wanting T.part) (λ c'. peeked) lawful_peeked _ c.args.self.now c.peek.new.self _ _ _ _ (T.faults tell) (T.loan tell) tell c.in_err-read.ensures.gets in
+    let h = name_unseen (hears T.wanting T.heard) (hears_part T.wanting T.part) _ _ _ _ _ _ _ d in
+    search (rules, h)
+
+pub file_name-returns-then-begins_group-clause-does : goal.file_name-returns-then-begins_group-clause-does
+file_name-returns-then-begins_group-clause-does g t c =
+    let T = g.T.Teller in
+    let F = g.F.Files in
+    let tell = c.args.tell.now in
+    let mid = c.peek.new.self in
+    let x = option_map (read_at mid.names) c.in_ok-read.read in
+    let d = does_gets (hears T.wanting T.heard) (hears_part T.wanting T.part) (λ c'. peeked) lawful_peeked (Ok x) c.args.self.now mid _ _ _ _ (T.faults tell) (T.loan tell) tell c.in_ok-read.ensures.gets in
+    name_seen (hears T.wanting T.heard) (hears_part T.wanting T.part) x true _ _ _ _ _ _ _ _ _ _ (sym c.if-begins_group.true ∙ c.begins_group.ensures mid.names) d c.name_argument.ensures.does
+
+pub file_name-returns-else-begins_group-clause-does : goal.file_name-returns-else-begins_group-clause-does
+file_name-returns-else-begins_group-clause-does g t c =
+    let T = g.T.Teller in
+    let F = g.F.Files in
+    let tell = c.args.tell.now in
+    let mid = c.peek.new.self in
+    let x = option_map (read_at mid.names) c.in_ok-read.read in
+    let d = does_gets (hears T.wanting T.heard) (hears_part T.wanting T.part) (λ c'. peeked) lawful_peeked (Ok x) c.args.self.now mid _ _ _ _ (T.faults tell) (T.loan tell) tell c.in_ok-read.ensures.gets in
+    name_seen (hears T.wanting T.heard) (hears_part T.wanting T.part) x false _ _ _ _ _ _ _ _ _ _ (sym c.if-begins_group.false ∙ c.begins_group.ensures mid.names) d c.plain_name.ensures.does
+
+pub file_name-returns-then-begins_group-clause-lower : goal.file_name-returns-then-begins_group-clause-lower
+file_name-returns-then-begins_group-clause-lower g t c = ok_then c.name_argument.result 0 0 0 _ _ _ _ c.peek.new.self c.name_argument.new.self c.in_ok-read.ensures.lower c.name_argument.ensures.lower (omega arith)
+
+pub file_name-returns-else-begins_group-clause-lower : goal.file_name-returns-else-begins_group-clause-lower
+file_name-returns-else-begins_group-clause-lower g t c = ok_then c.plain_name.result 0 0 0 _ _ _ _ c.peek.new.self c.plain_name.new.self c.in_ok-read.ensures.lower c.plain_name.ensures.lower (omega arith)
+
+pub plain_name-returns-in_err-list-clause-does : goal.plain_name-returns-in_err-list-clause-does
+plain_name-returns-in_err-list-clause-does g t c =
+    let T = g.T.Teller in
+    let F = g.F.Files in
+    let h = plain_stops (hears T.wanting T.heard) (hears_part T.wanting T.part) _ _ _ _ _ _ _ c.in_err-list.ensures.does in
+    search (rules, h)
+
+pub plain_name-returns-clause-does : goal.plain_name-returns-clause-does
+plain_name-returns-clause-does g t c =
+    let T = g.T.Teller in
+    let F = g.F.Files in
+    let last = c.gather.new.tell in
+    let files = c.gather.new.files in
+    let mid = c.gather.new.self in
+    let new = c.text.new.self in
+    let list = tokens_at mid.names c.in_ok-list.list in
+    let e = c.text.ensures in
+    let d = c.in_ok-list.ensures.does in
+    let reads = subst (λ l. Local (give (bytes_of (tokens_at mid.names l))) (ok_at string_bytes c.text.result) mid new) c.as_slice.ensures e.reads in
+    let u = does_as (hears T.wanting T.heard) (hears_part T.wanting T.part) string_bytes (λ c'. give (bytes_of list)) (lawful_give (bytes_of list)) c.text.result mid new (outside (F.shelf files) (F.faults files) (T.faults last) (T.loan last)) last reads e.kept e.limit e.keeps e.progress e.files d.holds.owns in
+    plain_does (hears T.wanting T.heard) (hears_part T.wanting T.part) list _ _ _ _ _ _ _ _ _ _ d u
+
+pub plain_name-returns-clause-lower : goal.plain_name-returns-clause-lower
+plain_name-returns-clause-lower g t c = ok_same c.text.result 0 _ _ _ c.gather.new.self c.text.new.self c.in_ok-list.ensures.lower c.text.ensures.same
+
+pub name_argument-returns-in_err-argument_alone-clause-does : goal.name_argument-returns-in_err-argument_alone-clause-does
+name_argument-returns-in_err-argument_alone-clause-does g t c =
+    let T = g.T.Teller in
+    let F = g.F.Files in
+    let tell = c.args.tell.now in
+    let d = does_gets (hears T.wanting T.heard) (hears_part T.wanting T.part) (λ c'. argument_alone) lawful_argument_alone _ c.args.self.now c.argument_alone.new.self _ _ _ _ (T.faults tell) (T.loan tell) tell c.in_err-argument_alone.ensures.gets in
+    let h = argument_stops (hears T.wanting T.heard) (hears_part T.wanting T.part) _ _ _ _ _ _ _ d in
+    search (rules, h)
+
+pub name_argument-returns-in_err-list-clause-does : goal.name_argument-returns-in_err-list-clause-does
+name_argument-returns-in_err-list-clause-does g t c =
+    let T = g.T.Teller in
+    let F = g.F.Files in
+    let tell = c.args.tell.now in
+    let d = does_gets (hears T.wanting T.heard) (hears_part T.wanting T.part) (λ c'. argument_alone) lawful_argument_alone (Ok tt) c.args.self.now c.argument_alone.new.self _ _ _ _ (T.faults tell) (T.loan tell) tell c.in_ok-argument_alone.ensures.gets in
+    let h = argument_unread (hears T.wanting T.heard) (hears_part T.wanting T.part) _ _ _ _ _ _ _ _ _ _ d c.in_err-list.ensures.does in
+    search (rules, h)
+
+pub name_argument-returns-clause-does : goal.name_argument-returns-clause-does
+name_argument-returns-clause-does g t c =
+    let T = g.T.Teller in
+    let F = g.F.Files in
+    let tell = c.args.tell.now in
+    let last = c.all_left.new.tell in
+    let files = c.all_left.new.files in
+    let mid = c.all_left.new.self in
+    let new = c.characters.new.self in
+    let list = tokens_at mid.names c.in_ok-list.list in
+    let e = c.characters.ensures in
+    let d = does_gets (hears T.wanting T.heard) (hears_part T.wanting T.part) (λ c'. argument_alone) lawful_argument_alone (Ok tt) c.args.self.now c.argument_alone.new.self _ _ _ _ (T.faults tell) (T.loan tell) tell c.in_ok-argument_alone.ensures.gets in
+    let k = c.in_ok-list.ensures.does in
+    let reads = subst (λ l. Local (characters (tokens_at mid.names l)) (ok_at string_bytes c.characters.result) mid new) c.as_slice.ensures e.reads in
+    let u = does_as (hears T.wanting T.heard) (hears_part T.wanting T.part) string_bytes (λ c'. characters list) (lawful_characters list) c.characters.result mid new (outside (F.shelf files) (F.faults files) (T.faults last) (T.loan last)) last reads e.kept e.limit e.keeps e.progress e.files k.holds.owns in
+    argument_does (hears T.wanting T.heard) (hears_part T.wanting T.part) list _ _ _ _ _ _ _ _ _ _ _ _ _ d k u
+
+pub name_argument-returns-clause-lower : goal.name_argument-returns-clause-lower
+name_argument-returns-clause-lower g t c =
+    ok_same c.characters.result 0 _ _ _ c.all_left.new.self c.characters.new.self (shrinks_then 0 0 0 _ _ _ _ c.argument_alone.new.self c.all_left.new.self c.in_ok-argument_alone.ensures.lower c.in_ok-list.ensures.lower (omega arith)) c.characters.ensures.same
+
+pub all_left-returns-in_err-list-clause-does : goal.all_left-returns-in_err-list-clause-does
+all_left-returns-in_err-list-clause-does g t c =
+    let T = g.T.Teller in
+    let F = g.F.Files in
+    let h = left_stops (hears T.wanting T.heard) (hears_part T.wanting T.part) _ _ _ _ _ _ _ c.in_err-list.ensures.does in
+    search (rules, h)
+
+pub all_left-returns-clause-does : goal.all_left-returns-clause-does
+all_left-returns-clause-does g t c =
+    let T = g.T.Teller in
+    let F = g.F.Files in
+    let hear = hears T.wanting T.heard in
+    let part = hears_part T.wanting T.part in
+    let now = c.gather.new.self in
+    let h = the_view c.self.inside in
+    let before = outside (F.shelf c.args.files.now) (F.faults c.args.files.now) (T.faults c.args.tell.now) (T.loan c.args.tell.now) in
+    let after = outside (F.shelf c.gather.new.files) (F.faults c.gather.new.files) (T.faults c.gather.new.tell) (T.loan c.gather.new.tell) in
+    let d = subst (λ n. Does hear part (λ m. (level m).gather All []) (Ok (tokens_at n.names c.in_ok-list.list)) c.args.self.now n before after c.args.tell.now c.gather.new.tell) (sym c.self.view_is) c.in_ok-list.ensures.does in
+    let at = subst (λ n. IsAtFence n.input.sources) (sym c.self.view_is) c.in_ok-list.ensures.ends in
+    rw c.unfence.ensures (left_does hear part _ _ c.args.self.now h _ before after after c.args.tell.now c.gather.new.tell c.gather.new.tell d (up_does hear part (tokens_at h.names c.in_ok-list.list) h after c.gather.new.tell at d.keeps.sound d.stops.kept d.holds.owns))
+
+-- \input
+
+pub expand-file_name-requires : goal.expand-file_name-requires
+expand-file_name-requires g t c κs within =
+    let b = c.in_ok-begin.ensures in
+    let mine = c.args.self.now in
+    let mid = c.begin.new.self in
+    let kept = begun_kept mine mid b.is b.within c.requires.sound in
+    let owns = owns_same (g.F.Files.shelf c.args.files.now) mine mid c.requires.owns b.files in
+    let nesting = ap (λ (h : Held). h.nesting) b.is in
+    let deep = b.nested in
+    (omega (arith, c.decreases, nesting, deep), (within.0, (within.1, (b.kept, (kept.sound, owns)))))
+
+pub expand-open-requires : goal.expand-open-requires
+expand-open-requires g t c =
+    let b = c.in_ok-begin.ensures in
+    let d = c.in_ok-name.ensures.does in
+    let mine = c.args.self.now in
+    let mid = c.begin.new.self in
+    let now = c.file_name.new.self in
+    let names = subst (λ (h : Held). Extends h.names now.names) b.is d.progress.names in
+    let nesting = ap (λ (h : Held). h.nesting) b.is in
+    let same = c.in_ok-name.ensures.lower.nesting in
+    record { running = d.stops.kept; sound = d.keeps.sound; owns = d.holds.owns; nested = omega (arith, nesting, same); token = token_more (length mine.names) (length now.names) names.longer c.args.token c.requires.token }
+
+pub expand-returns-in_err-name-clause-does : goal.expand-returns-in_err-name-clause-does
+expand-returns-in_err-name-clause-does g t c =
+    let T = g.T.Teller in
+    let F = g.F.Files in
+    let b = c.in_ok-begin.ensures in
+    let mine = c.args.self.now in
+    let d = begins_did (hears T.wanting T.heard) (hears_part T.wanting T.part) _ mine c.begin.new.self (outside (F.shelf c.args.files.now) (F.faults c.args.files.now) (T.faults c.args.tell.now) (T.loan c.args.tell.now)) c.args.tell.now c.requires.sound b.begins b.kept b.is b.within b.limit b.progress b.files c.requires.owns in
+    let is = ap (expandable_at mine.names) (c.opens_file.ensures.yes c.if-opens_file.true) in
+    let h = expand_same (hears T.wanting T.heard) (hears_part T.wanting T.part) (token_at mine.names c.args.token) Input _ _ _ _ _ _ _ _ (sym is) (expand_unnamed (hears T.wanting T.heard) (hears_part T.wanting T.part) (token_at mine.names c.args.token) _ _ _ _ _ _ _ _ d c.in_err-name.ensures.does) in
+    search (rules, h)
+
+pub expand-returns-then-opens_file-clause-does : goal.expand-returns-then-opens_file-clause-does
+expand-returns-then-opens_file-clause-does g t c =
+    let T = g.T.Teller in
+    let F = g.F.Files in
+    let b = c.in_ok-begin.ensures in
+    let mine = c.args.self.now in
+    let now = c.file_name.new.self in
+    let x = c.in_ok-name.ensures.does in
+    let d = begins_did (hears T.wanting T.heard) (hears_part T.wanting T.part) _ mine c.begin.new.self (outside (F.shelf c.args.files.now) (F.faults c.args.files.now) (T.faults c.args.tell.now) (T.loan c.args.tell.now)) c.args.tell.now c.requires.sound b.begins b.kept b.is b.within b.limit b.progress b.files c.requires.owns in
+    let names = subst (λ (h : Held). Extends h.names now.names) b.is x.progress.names in
+    let kept = rw (token_kept mine.names now.names names c.args.token c.requires.token) at c.open.ensures.tells in
+    let u = rw c.deref.ensures at kept in
+    rw (c.opens_file.ensures.yes c.if-opens_file.true) (expand_opens (hears T.wanting T.heard) (hears_part T.wanting T.part) (token_at mine.names c.args.token) (string_bytes c.in_ok-name.name) _ _ _ _ _ _ _ _ _ _ _ d x u)
+
+pub expand-returns-then-opens_file-clause-begins : goal.expand-returns-then-opens_file-clause-begins
+expand-returns-then-opens_file-clause-begins g t c =
+    let b = c.in_ok-begin.ensures in
+    opened_begun _ _ c.args.self.now c.begin.new.self c.file_name.new.self c.open.new.self c.open.result b.is b.within c.in_ok-name.ensures.lower c.open.ensures.passes

@@ -146,3 +146,15 @@ invariant-gather-tokens g l =
 
 abbrev pub decreases-gather-tokens : goal.decreases-gather-tokens
 decreases-gather-tokens g l = held_room (g.F.Files.shelf l.files) l.self
+
+abbrev pub decreases-all_left : goal.decreases-all_left
+decreases-all_left g l = measure l.self.now.nesting l.deep 3
+
+abbrev pub decreases-plain_name : goal.decreases-plain_name
+decreases-plain_name g l = measure l.self.now.nesting l.deep 3
+
+abbrev pub decreases-name_argument : goal.decreases-name_argument
+decreases-name_argument g l = measure l.self.now.nesting l.deep 4
+
+abbrev pub decreases-file_name : goal.decreases-file_name
+decreases-file_name g l = measure l.self.now.nesting l.deep 5

@@ -7,7 +7,7 @@ use Rattle.texml_expand.proofs.engine.Engine.absorb.Goals as goal
 pub returns-then-expanding-clause-follows : goal.returns-then-expanding-clause-follows
 returns-then-expanding-clause-follows g c = λ running.
     let T = g.T.Teller in
-    (absorb_expanding (hears T.wanting T.heard) (hears_part T.wanting T.part) c.args.expanding _ _ _ _ _ _ _ c.if-expanding.true c.gather.ensures.does).follows
+    (absorb_expanding (hears T.wanting T.heard) (hears_part T.wanting T.part) c.args.expanding _ _ _ _ _ _ _ c.if-expanding.true c.absorb_expanded.ensures.does).follows
 
 pub returns-else-expanding-clause-follows : goal.returns-else-expanding-clause-follows
 returns-else-expanding-clause-follows g c = λ running.

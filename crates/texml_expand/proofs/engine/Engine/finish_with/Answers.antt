@@ -1,4 +1,4 @@
-use Rattle.std.proofs.Common.{subst}
+use Rattle.std.proofs.Common.{[], subst}
 use Rattle.texml_token.specs.Numbers.{token_at, tokens_at}
 use Rattle.texml_expand.specs.Expand.{record_of}
 use Rattle.texml_expand.specs.State.{State, tell}
@@ -15,11 +15,11 @@ returns-in-Err-clause-finishes g c = rw c.no_memory.ensures.is (λ shelf. part_u
 pub returns-in-Ok-clause-finishes : goal.returns-in-Ok-clause-finishes
 returns-in-Ok-clause-finishes g c =
     let h = the_view c.self.inside in
-    let told = rw c.in-Ok.ensures.ok at c.tell_of.ensures.told in
+    let told = rw c.new-no_file.ensures at rw c.in-Ok.ensures.ok at c.tell_of.ensures.told in
     rw (← c.self.view_is)
     (λ shelf.
     let P : State → Type 0 = λ s. Meets (hears g.T.Teller.wanting g.T.Teller.heard) (hears_part g.T.Teller.wanting g.T.Teller.part)
-    (tell (record_of (token_at h.names c.args.token) (tokens_at h.names c.args.told.now)) s) c.tell_of.result (state_of shelf c.tell_of.new.self) c.args.tell.now c.tell_of.new.tell in
+    (tell (record_of (token_at h.names c.args.token) (tokens_at h.names c.args.told.now) []) s) c.tell_of.result (state_of shelf c.tell_of.new.self) c.args.tell.now c.tell_of.new.tell in
     subst P (state_finished h c.args.back.now shelf) (told shelf))
 
 pub returns-in-Ok-clause-files : goal.returns-in-Ok-clause-files
