@@ -132,6 +132,7 @@ module _ {V : Type 0} (first judge judge' : Judge V) (old now new : Held) (f g h
       fed_more (state_of f.shelf old) (state_of g.shelf now) (state_of h.shelf new) now.names new.names d.keeps.grows i.seen t i.within (i.fed told) q.0 q.1
 
   pays_all : (told : IsTrue f.shelf.tells) → AreLittle old.input.sources → Spent {A = Unit {0}} (Ok tt) f.shelf h.shelf old.input.sources new.input.sources (loads (fed_all told).sizes)
+  unfolding fed_all fed_more
   pays_all told little =
       let on = told_on f.shelf g.shelf old now i.runs.holds told in
       let q = d.reads on in
@@ -168,6 +169,7 @@ module _ {V : Type 0} (first judge judge' : Judge V) (old now new : Held) (f g h
 
   -- what it read, which a verdict is made of
   pub feeding_pays : (r : Result V Stop) (last : Held) → SameFiles new last → FedSpends first (state_of f.shelf old) r f.shelf h.shelf old last
+  unfolding settled_now fed_all
   feeding_pays r last files told little =
       let sizes = (fed_all told).sizes in
       record {
@@ -254,6 +256,7 @@ module _ {V : Type 0} (first judge : Judge V) (old now : Held) (f g : Outside) (
   -- what was read with one more token
   behind_pays : {A : Type 0} (r : Result A Stop) (e : Result V Stop) (new : Held) (h : Outside) → ((a b : List Source) (gains : Gains) → Spent r g.shelf h.shelf a b gains → Spent e g.shelf h.shelf a b gains)
       → Spends (inner_token (state_of g.shelf now)) r g.shelf h.shelf now new → FedSpends first (state_of f.shelf old) e f.shelf h.shelf old new
+  unfolding seen_now
   behind_pays r e new h lift spends told little =
       let sizes = (i.fed told).sizes in
       let one = added (inner_token (state_of g.shelf now)) in
@@ -321,14 +324,16 @@ module _ {A V : Type 0} (decide : List Token → Verdict A) (value : Table → V
   cut end c =
       let n = length c.list in
       let took : Took n old (tokens_at c.texts c.list) c.now = leads_at (λ l u. Took n old l u) (next_tokens n old) (tokens_at c.texts c.list) c.now (loads c.seen.sizes) c.seen.tokens (next_took n old) in
-      let fits = takes_room n old c.now took.takes in
-      (c.seen.sizes ++ c.last, by_least_ends decide old (suc n) end (loads (c.seen.sizes ++ c.last)) (omega arith) (tokens_end old c.now (tokens_at c.texts c.list) end n c.seen.sizes c.last c.seen.tokens c.cut)
-      (λ j lt. elim (cases_lt j n) [
-        | inl less ↦ before c.texts c.list c.now c.seen j less
-        | inr le ↦
-            let e : j ≡ n = omega (arith, lt, le) in
-            not_enough c.texts j c.list c.seen.numbered c.seen.within (record { now = c.now; sizes = c.seen.sizes; tokens = ap (λ k. next_tokens k old) e ∙ c.seen.tokens; is = c.is })
-      ]))
+      let fits = takes_room n old c.now took.takes in (
+        c.seen.sizes ++ c.last,
+        by_least_ends decide old (suc n) end (loads (c.seen.sizes ++ c.last)) (omega arith) (tokens_end old c.now (tokens_at c.texts c.list) end n c.seen.sizes c.last c.seen.tokens c.cut)
+            (λ j lt. elim (cases_lt j n) [
+              | inl less ↦ before c.texts c.list c.now c.seen j less
+              | inr le ↦
+                  let e : j ≡ n = omega (arith, lt, le) in
+                  not_enough c.texts j c.list c.seen.numbered c.seen.within (record { now = c.now; sizes = c.seen.sizes; tokens = ap (λ k. next_tokens k old) e ∙ c.seen.tokens; is = c.is })
+            ]),
+      )
 
   -- what feeding answers is what the least number of next tokens decides
   pub feeds_quiet : (r : Result V Stop) (texts : Table) (now : State) → Feeds judge old r texts now → Quiet (by_least decide old) (ok_at (value texts) r) now

@@ -3,6 +3,7 @@ use Rattle.texml_token.specs.Numbers.{tokens_at}
 use Rattle.texml_expand.specs.Arguments.{called}
 use Rattle.texml_expand.specs.Filling.{fills}
 use Rattle.texml_expand.specs.Fronts.{macro_at}
+use Rattle.texml_expand.specs.Held.{state_of}
 use Rattle.texml_expand.proofs.Called.{plain_called, empty_list, called_done, called_within}
 use Rattle.texml_expand.proofs.Getting.{gets_by}
 use Rattle.texml_expand.proofs.Running.{runs_now, files_same}
@@ -15,7 +16,7 @@ returns-then-is_empty-clause-gets g c =
     let m = c.args.found in
     let none = empty_list m.params.pieces (ap (λ ps. length ps == 0) (sym c.as_slice.ensures) ∙ sym c.is_empty.ensures ∙ c.if-is_empty.true) in
     gets_by (called (macro_at s.names m)) _ s s _ _ (λ told. ([], plain_called s.names (length s.names) m m.params.default m.params.pieces refl refl none c.requires.found.params.shape.default c.requires.found.body _))
-    (spends_same _ _ _ s s (files_same s s refl))
+    (spends_same (called (macro_at s.names m) (state_of (g.F.Files.shelf c.args.files.now) s)) _ _ s s (files_same s s refl))
     (runs_now (tokens_at s.names m.body) s _ c.requires.sound c.requires.running c.requires.owns)
 
 pub returns-in-Ok-clause-gets : goal.returns-in-Ok-clause-gets
