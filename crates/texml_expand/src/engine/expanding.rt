@@ -252,6 +252,9 @@ impl Engine {
         if read.frozen {
             return Ok(Front::Plain(read));
         }
+        if let Token::Char(_, _) = read.token {
+            return Ok(Front::Plain(read));
+        }
         let meaning = match self.meaning(read.token) {
             Ok(meaning) => meaning,
             Err(_) => return Err(self.no_memory()),
