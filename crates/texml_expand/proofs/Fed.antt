@@ -272,7 +272,7 @@ module _ {V : Type 0} (first judge : Judge V) (old now : Held) (f g : Outside) (
   pub out_pays : (mid new : Held) (h : Outside) (t : Token) (e : Stop) → Gets inner_token (Ok t) now mid g h → new ≡ record mid { stop = Some stop.NoMemory } → FedSpends first (state_of f.shelf old) (Err e) f.shelf h.shelf old new
   out_pays mid new h t e d is =
       behind_pays {A = Token} (Err e) (Err e) new h (λ a b gains p. spent_err Token V e g.shelf h.shelf a b gains p)
-      (λ told small. subst (λ (k : Held). Spent (Err e) g.shelf h.shelf now.input.sources k.input.sources (added (inner_token (state_of g.shelf now)))) (sym is)
+      (λ told small. subst (λ (k : Held). Spent {A = Token} (Err e) g.shelf h.shelf now.input.sources k.input.sources (added (inner_token (state_of g.shelf now)))) (sym is)
       (spent_fails t e g.shelf h.shelf now.input.sources mid.input.sources (added (inner_token (state_of g.shelf now))) (d.spends told small)))
 
 module _ {V : Type 0} (first judge : Judge V) (old now new : Held) (f g h : Outside) (e : Stop) (i : Feeding first old f judge now g) (d : Gets inner_token (Err e) now new g h) where
