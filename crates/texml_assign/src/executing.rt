@@ -107,6 +107,9 @@ fn execute_meaning<F: Files, T: Teller>(
         (outside (F.shelf files.old) (F.faults files.old) (T.faults tell.old) (T.loan tell.old)) (outside (F.shelf files.new) (F.faults files.new) (T.faults tell.new) (T.loan tell.new)) tell.old tell.new }
     ensures same { IfOk result (λ done. done ≡ Executed.NotMine → (engine.new ≡ engine.old) × (files.new ≡ files.old) × (tell.new ≡ tell.old)) }
 {
+    if let Token::Char(_, _) = token {
+        return Ok(Executed::NotMine);
+    }
     let meaning = match engine.means(token) {
         Ok(meaning) => meaning,
         Err(_) => return Err(engine.no_memory()),

@@ -156,6 +156,9 @@ fn digest_left<F: Files, T: Teller>(
     ensures does { Does (hears T.wanting T.heard) (hears_part T.wanting T.part) (spec_digest_left (token_at engine.old.names token) NotMine) (ok_at ops_of result) engine.old engine.new
         (outside (F.shelf files.old) (F.faults files.old) (T.faults tell.old) (T.loan tell.old)) (outside (F.shelf files.new) (F.faults files.new) (T.faults tell.new) (T.loan tell.new)) tell.old tell.new }
 {
+    if let Token::Char(code, category) = token {
+        return digest_char(engine, code, category);
+    }
     let meaning = match engine.means(token) {
         Ok(meaning) => meaning,
         Err(_) => return Err(engine.no_memory()),

@@ -18,6 +18,11 @@ returns-in-Err-clause-does g c =
     let h = c.args.engine.now in let t = token_at h.names c.args.token in
     does_out _ _ (execute t) (lawful_execute t) c.no_memory.result h c.no_memory.new.self _ _ c.requires.sound c.requires.owns c.no_memory.ensures.is c.no_memory.ensures.kept
 
+pub returns-in-Char-clause-does : goal.returns-in-Char-clause-does
+returns-in-Char-clause-does g c =
+    let h = c.args.engine.now in
+    rw c.in-Char.is (does_now _ _ (give NotMine) (plain_give NotMine) NotMine h _ _ c.requires.sound c.requires.owns c.requires.running (λ shelf. refl))
+
 pub returns-in-None-clause-does : goal.returns-in-None-clause-does
 returns-in-None-clause-does g c =
     let h = c.args.engine.now in let t = token_at h.names c.args.token in
