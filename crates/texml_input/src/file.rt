@@ -16,13 +16,13 @@ use texml_text::{LineFault, LineReader};
 use texml_token::{Bytes, Line, Names, Token};
 
 // A file: its name, which a place shares with it; whether it loads no line any more; the mouth of the line that it is in, which
-// has met no fault; and the reader of its lines.
+// has met no fault; and the reader of its lines, which is boxed, as a file moves with each token.
 #[derive(Debug, Drop)]
 pub struct OpenFile {
     name: Rc<Bytes>,
     ended: bool,
     mouth: Mouth,
-    reader: LineReader,
+    reader: Box<LineReader>,
 }
 
 impl Model for OpenFile {
@@ -31,7 +31,7 @@ impl Model for OpenFile {
 
     ghost Value = { Opened };
 
-    ghost view = { λ f. record { name = f.name.value; ended = f.ended; spot = f.mouth.spot; reader = f.reader } };
+    ghost view = { λ f. record { name = f.name.value; ended = f.ended; spot = f.mouth.spot; reader = f.reader.value } };
 
     ghost invariant = { λ f. f.mouth.fault ≡ None };
 }
@@ -49,11 +49,12 @@ impl OpenFile {
         ensures { IfOk result (λ f. f ≡ fresh_file id name.now) }
     {
         let name = Rc::new(alloc, name.clone()?)?;
+        let reader = Box::new(alloc, LineReader::new(alloc, id))?;
         Ok(OpenFile {
             name,
             ended: false,
             mouth: Mouth::new(Line::new(alloc)),
-            reader: LineReader::new(alloc, id),
+            reader,
         })
     }
 

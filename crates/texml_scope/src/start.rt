@@ -1,6 +1,6 @@
 //! The values that keys have before anything is set.
 
-ghost use Rattle.std.specs.Prelude.{◌≡◌, pos};
+ghost use Rattle.std.specs.Prelude.{◌≡◌, ◌<◌, ℕ, pos, slice_index};
 ghost use Rattle.texml_scope.specs.Values.{number_in};
 ghost use Rattle.texml_token.specs.declared.tokens.Token.{Token as TokenCode};
 ghost use Rattle.texml_scope.specs.Starting.{starting, initial_category, initial_lower, initial_upper};
@@ -48,6 +48,17 @@ pub fn start_number(key: Key) -> Option<i32>
         Key::EndLineChar => Some(13),
         _ => None,
     }
+}
+
+/// The categories of the characters below 128 at the start.
+pub fn first_categories() -> [u8; 128]
+    ensures { (code : ℕ) → code < 128 → slice_index result code ≡ initial_category code }
+{
+    let mut categories = [0; 128];
+    for code in 0..128 {
+        categories[code as usize] = category_of(code);
+    }
+    categories
 }
 
 const NO_GLUE: Glue = Glue {
