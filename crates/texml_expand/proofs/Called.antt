@@ -1,5 +1,5 @@
 -- What the call of a macro gives, by numbers of names and by their texts.
-use Rattle.std.proofs.Common.{◌≡◌, ◌-◌, ◌==◌, ℕ, zero, suc, Bool, true, List, [], ◌∷◌, ◌++◌, length, map, Option, None, Some, option_map, Ok, Err, refl, sym, ap, ap₂, ◌∙◌, subst, arith, inl, inr}
+use Rattle.std.proofs.Common.{◌≡◌, ◌-◌, ◌==◌, ◌&&◌, ℕ, zero, suc, Bool, true, false, List, [], ◌∷◌, ◌++◌, length, map, Option, None, Some, option_map, Ok, Err, refl, sym, ap, ap₂, ◌∙◌, subst, arith, inl, inr}
 use Rattle.std.specs.List.{All}
 use Rattle.std.specs.Option.{option_to_list, unwrap_or}
 use Rattle.std.proofs.lemmas.Bool.{cases_lt, eqb-true}
@@ -78,6 +78,16 @@ plain_filled count (t ∷ ts) w = ap₂ (λ xs ys. xs ++ ys) (plain_token t (All
 -- the call of a macro without parameters
 no_arguments : (long : Bool) (s : State) → read_by (reading (shape_from {T = Token} long [])) s ≡ Done [] s nothing
 no_arguments long s = by_least_at (λ list. decided_by (reading (shape_from {T = Token} long []) list)) s s [] nothing (Yields []) refl refl refl (λ j lt. absurd (omega (arith, lt)))
+
+both_first : (a b : Bool) → (a && b) ≡ true → a ≡ true
+both_first true b e = refl
+both_first false b e = e
+
+-- a shape that asks for nothing
+pub nothing_read : (texts : Table) (p : List TokenCode) (ds : List (List TokenCode)) (long : Bool) (s : State) → (length p == 0 && length ds == 0) ≡ true → read_by (reading (shape_at texts (record { prefix = p; delimiters = ds; long = long }))) s ≡ Done [] s nothing
+nothing_read texts [] [] long s e = no_arguments long s
+nothing_read texts [] (d ∷ ds) long s e = let no = eqb-true (length (d ∷ ds)) 0 e in absurd (omega (arith, no))
+nothing_read texts (t ∷ p) ds long s e = let no = eqb-true (length (t ∷ p)) 0 (both_first (length (t ∷ p) == 0) (length ds == 0) e) in absurd (omega (arith, no))
 
 pub plain_called : (texts : Table) (count : ℕ) (m : MacroCode) (default : Option (List TokenCode)) (pieces : List (PieceOf TokenCode)) → default ≡ m.params.default → pieces ≡ m.params.pieces → pieces ≡ [] → DefaultFits default pieces
     → BodyWithin count (slots_in pieces) m.body → (s : State) → called (macro_at texts (record { long = m.long; params = record { default = default; pieces = pieces }; body = m.body })) s ≡ Done (tokens_at texts m.body) s nothing

@@ -13,7 +13,7 @@ use Rattle.texml_expand.specs.Spending.{Spent, Spends}
 use Rattle.texml_expand.proofs.Meeting.{silent_fails_not}
 use Rattle.texml_expand.proofs.Fronts.{kept_itself}
 use Rattle.texml_expand.proofs.Running.{limit_as, told_on, runs_then, runs_stop, runs_local, runs_now, runs_fault, runs_out, gets_runs, files_same, files_stopped}
-use Rattle.texml_expand.proofs.Spending.{spent_same, spent_err, spent_chain, spent_done, spends_same, spends_as, spends_stop, spends_then}
+use Rattle.texml_expand.proofs.Spending.{spent_same, spent_err, spent_fails, spent_chain, spent_done, spends_same, spends_as, spends_stop, spends_then}
 use Rattle.texml_expand.proofs.Sequence.{quiet_silent, quiet_then, quiet_stops}
 use Rattle.texml_expand.proofs.Taking.{quiet_fault}
 
@@ -59,6 +59,14 @@ gets_fault x code about e old new f is fault e' owns =
 pub gets_out : {A : Type 0} (x : Reading A) (e : Stop) (old new : Held) (f : Outside) → e ≡ stop.NoMemory → new ≡ record old { stop = Some stop.NoMemory } → Owns f.shelf old → Gets x (Err e) old new f f
 gets_out x e old new f short is owns =
     gets_by x (Err e) old new f f (λ told. subst (λ (s : Stop). Quiet (x (state_of f.shelf old)) (Err s) (state_of f.shelf new)) (sym short) tt) (spends_same (x (state_of f.shelf old)) (Err e) f.shelf old new (files_stopped old new stop.NoMemory is)) (runs_out e old new f short is owns)
+
+-- want of memory behind a call
+pub gets_lost : {A : Type 0} (x : Reading A) (v : A) (e : Stop) (old mid new : Held) (f g : Outside) → Gets x (Ok v) old mid f g → e ≡ stop.NoMemory → new ≡ record mid { stop = Some stop.NoMemory } → Gets x (Err e) old new f g
+gets_lost {A = A} x v e old mid new f g d short is =
+    gets_by x (Err e) old new f g (λ told. subst (λ (s : Stop). Quiet (x (state_of f.shelf old)) (Err s) (state_of g.shelf new)) (sym short) tt)
+    (λ told little. subst (λ (h : Held). Spent {A = A} (Err e) f.shelf g.shelf old.input.sources h.input.sources (added (x (state_of f.shelf old)))) (sym is)
+    (spent_fails v e f.shelf g.shelf old.input.sources mid.input.sources (added (x (state_of f.shelf old))) (d.spends told little)))
+    (runs_then v (Err e) old mid new f g g (gets_runs x (Ok v) old mid f g d) (runs_out e mid new g short is d.holds.owns))
 
 -- a call that takes no files and changes nothing, whose value stands for another one
 pub gets_new : {A B : Type 0} (at : Table → A → B) (x : Reading B) (r : Result A Stop) (old new : Held) (f : Outside) → Local x (ok_at (at old.names) r) old new → OnOk r (new ≡ old) → new.stop ≡ stop_after r → IsAtLimit r new → Sound old
