@@ -66,6 +66,7 @@ enum Behind {
 /// `Limit` where one expansion too many would begin there. `TellFailed` only where the count of faults of `tell` rose in this
 /// call, `NoMemory` where memory was refused; the records told until then are the first of those that would be told. And the
 /// stop that is kept.
+#[inline(always)]
 pub fn execute<F: Files, T: Teller>(
     alloc: Global,
     engine: &mut Engine,
@@ -92,6 +93,7 @@ pub fn execute<F: Files, T: Teller>(
 }
 
 // Does what a token asks for by its meaning.
+#[inline(always)]
 fn execute_meaning<F: Files, T: Teller>(
     alloc: Global,
     engine: &mut Engine,

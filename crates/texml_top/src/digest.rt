@@ -97,6 +97,7 @@ fn end_of<'c, 'a>(
 }
 
 // Does what a token that was fetched asks for, and gathers what it puts into the document.
+#[inline(always)]
 fn digest_turn<F: Files, T: Teller>(
     alloc: Global,
     engine: &mut Engine,
@@ -120,6 +121,7 @@ fn digest_turn<F: Files, T: Teller>(
 }
 
 // Does what a token that was fetched asks for: what it puts into the document.
+#[inline(always)]
 fn digest_token<F: Files, T: Teller>(
     alloc: Global,
     engine: &mut Engine,
@@ -142,6 +144,7 @@ fn digest_token<F: Files, T: Teller>(
 }
 
 // Does what a token asks for that wasn't executed.
+#[inline(always)]
 fn digest_left<F: Files, T: Teller>(
     alloc: Global,
     engine: &mut Engine,
@@ -190,6 +193,7 @@ fn digest_meaning<F: Files, T: Teller>(
 }
 
 // Does what a character asks for.
+#[inline(always)]
 fn digest_char(engine: &mut Engine, code: u32, category: u8) -> Result<Piece, Stop>
     requires running { engine.old.stop ≡ None }
     requires sound { Sound engine.old }

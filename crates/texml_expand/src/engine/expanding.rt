@@ -118,6 +118,7 @@ impl Engine {
     /// meaning, and with the faults of `expand_once`. `Limit` where one expansion too many would begin.
     /// `TellFailed` only where the count of faults of `tell` rose in this call, `NoMemory` where memory was refused; the
     /// records told until then are the first of those that would be told. And the stop that is kept.
+    #[inline(always)]
     pub fn fetch<F: Files, T: Teller>(
         &mut self,
         files: &mut F,
@@ -218,6 +219,7 @@ impl Engine {
     }
 
     // Takes the front.
+    #[inline(always)]
     pub(super) fn front<F: Files>(&mut self, files: &mut F) -> Result<Front, Stop>
         requires running { self.old.stop ≡ None }
         requires sound { Sound self.old }
@@ -235,6 +237,7 @@ impl Engine {
     }
 
     // What a token that was taken is.
+    #[inline(always)]
     fn judge(&mut self, read: Read) -> Result<Front, Stop>
         requires running { self.old.stop ≡ None }
         requires sound { Sound self.old }
@@ -270,6 +273,7 @@ impl Engine {
 
     // The next token that isn't expanded.
     #[cycle(expanding)]
+    #[inline(always)]
     pub(super) fn fetch_on<F: Files, T: Teller>(
         &mut self,
         files: &mut F,
@@ -651,6 +655,7 @@ impl Engine {
 
     // The next token, as it stands or expanded, and what it counts as.
     #[cycle(expanding)]
+    #[inline(always)]
     pub(super) fn next_looked<F: Files, T: Teller>(
         &mut self,
         files: &mut F,
@@ -679,6 +684,7 @@ impl Engine {
     }
 
     // What a token that was fetched counts as.
+    #[inline(always)]
     fn counted(&mut self, read: Read) -> Result<Option<Looked>, Stop>
         requires running { self.old.stop ≡ None }
         requires sound { Sound self.old }
@@ -703,6 +709,7 @@ impl Engine {
     }
 
     // What a token that was taken counts as.
+    #[inline(always)]
     pub(super) fn counts_as(&self, read: Read) -> Result<Token, AllocError>
         requires sound { Sound self.now }
         requires token { TokenWithin (length self.now.names) read.token }
