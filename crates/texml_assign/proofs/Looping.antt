@@ -223,7 +223,7 @@ module _ {X S A : Type 0} (loop : LoopOver X S A) (laws : LawfulLoop loop) where
 
       module _ (mid : State) (u : Shelf) (k : List Source) (b c : T) where
         -- the end of what is to be read
-        pub loop_ends_pays : (r : Result A Stop) (v : Shelf) (l : List Source) → Follows hear part (λ n. loop.source n now) (Ok None) mid b c → (AreLittle j → SpentBy (λ n. loop.source n now) (Ok None) t u j k)
+        pub loop_ends_pays : (r : Result A Stop) (v : Shelf) (l : List Source) → Follows hear part (λ n. loop.source n now) (Ok None) mid b c → (AreLittle j → SpentBy {B = Option X} (λ n. loop.source n now) (Ok None) t u j k)
             → (AreLittle k → SpentBy (λ n. loop.end seen mid) r u v k l) → SpentBy (λ n. loops loop first n old) r s v i l
         loop_ends_pays r v l g p q = o.on r v l (source_spent seen None r now mid t u v j k l b c g (p o.little) q)
 
@@ -235,13 +235,13 @@ module _ {X S A : Type 0} (loop : LoopOver X S A) (laws : LawfulLoop loop) where
 
           module _ (far : State) (v : Shelf) (l : List Source) (d : T) where
             -- a turn behind which it is over
-            pub turn_over_pays : (w : A) → Follows hear part (λ n. loop.turn seen x n mid) (Ok (Over w)) far c d → (AreLittle k → SpentBy (λ n. loop.turn seen x n mid) (Ok (Over w)) u v k l) → SpentBy (λ n. loops loop first n old) (Ok w) s v i l
+            pub turn_over_pays : (w : A) → Follows hear part (λ n. loop.turn seen x n mid) (Ok (Over w)) far c d → (AreLittle k → SpentBy {B = Next S A} (λ n. loop.turn seen x n mid) (Ok (Over w)) u v k l) → SpentBy (λ n. loops loop first n old) (Ok w) s v i l
             turn_over_pays w h q =
                 o.on (Ok w) v l (source_spent seen (Some x) (Ok w) now mid t u v j k l b c g (p o.little)
                 (λ small. turn_spent x (Over w) (Ok w) seen mid far u v v k l l c d h (q small) (λ fine. spent_settled (λ n. give w) (lawful_plain (give w) (plain_give w)) (Ok w) far v l l refl fine)))
 
             -- a turn behind which it goes on
-            pub turn_onward_pays : (more : S) → Follows hear part (λ n. loop.turn seen x n mid) (Ok (On more)) far c d → (AreLittle k → SpentBy (λ n. loop.turn seen x n mid) (Ok (On more)) u v k l) → LoopPays first old s i more far v l
+            pub turn_onward_pays : (more : S) → Follows hear part (λ n. loop.turn seen x n mid) (Ok (On more)) far c d → (AreLittle k → SpentBy {B = Next S A} (λ n. loop.turn seen x n mid) (Ok (On more)) u v k l) → LoopPays first old s i more far v l
             turn_onward_pays more h q =
                 let a = p o.little in
                 let small = spent_little (Some x) t u j k (added a.answer) a.spent in

@@ -1,4 +1,4 @@
-use Rattle.std.proofs.Common.{Err, refl, sym, ◌∙◌, rules, arith}
+use Rattle.std.proofs.Common.{Err, refl, sym, ◌∙◌, arith}
 use Rattle.std.specs.Option.{option_map}
 use Rattle.texml_token.specs.Numbers.{token_at}
 use Rattle.texml_token.specs.declared.fault_code.TheConstants.{FILE_ENDED, BAD_PREFIX}
@@ -8,6 +8,7 @@ use Rattle.texml_assign.specs.declared.table.Command.{Command as CommandWord}
 use Rattle.texml_assign.specs.declared.table.Prefixes.{Prefixes}
 use Rattle.texml_assign.specs.Loop.{On, Over}
 use Rattle.texml_assign.specs.Execute.{prefix_turn, prefix_loop}
+use Rattle.texml_expand.proofs.Stopping.{passed_on}
 use Rattle.texml_assign.proofs.Doing.{does_call, does_now, does_out, does_fault, goes_stops, goes_ends, goes_turn_stops, goes_over, goes_on, no_more}
 use Rattle.texml_assign.proofs.Commands.{plain_prefix_turn, prefix_laws}
 use Rattle.texml_assign.proofs.executing.prefixed.Goals as goal
@@ -16,7 +17,7 @@ pub returns-in_err-token : goal.returns-in_err-token
 returns-in_err-token g c =
     let i = c.tokens.invariant in let run = i.going.running in let f = c.in_err-token.ensures in let mid = c.fetch.new.self in
     let s = does_call (hears g.T.Teller.wanting g.T.Teller.heard) (hears_part g.T.Teller.wanting g.T.Teller.part) fetch (option_map (token_at mid.names)) (Err c.in_err-token.field-0.0) c.tokens.engine mid _ _ _ _ (f.follows run) (f.spends run) (f.stops run) (f.limit run) tt f.progress f.holds tt in
-    let h = goes_stops _ _ prefix_loop prefix_laws _ c.args.first c.tokens.prefixes _ _ _ _ _ _ _ _ _ i.going s in search (rules, h)
+    let h = goes_stops _ _ prefix_loop prefix_laws _ c.args.first c.tokens.prefixes _ _ _ _ _ _ _ _ _ i.going s in record { does = rw (passed_on c.from_residual.result c.in_err-token.field-0.0 c.from_residual.ensures) h }
 
 pub returns-in-None : goal.returns-in-None
 returns-in-None g c = record {

@@ -1,10 +1,11 @@
-use Rattle.std.proofs.Common.{Ok, Err, rules}
+use Rattle.std.proofs.Common.{Ok, Err}
 use Rattle.std.specs.Option.{option_map}
 use Rattle.texml_token.specs.Numbers.{tokens_at}
 use Rattle.texml_expand.specs.Arguments.{read_optional}
 use Rattle.texml_expand.specs.Held.{Kept, ok_at}
 use Rattle.texml_expand.specs.Hearing.{hears, hears_part}
 use Rattle.texml_assign.specs.NewCommand.{fitting}
+use Rattle.texml_expand.proofs.Stopping.{passed_on}
 use Rattle.texml_assign.proofs.NewCommands.{plain_optional, plain_fitting}
 use Rattle.texml_assign.proofs.Readings.{lawful_plain}
 use Rattle.texml_assign.proofs.Doing.{does_then, does_stop, kept_of, keeps_of, does_judge, does_reads, no_more}
@@ -15,7 +16,7 @@ returns-in_err-default-clause-does g c =
     let slots = c.args.slots in let old = c.args.engine.now in let mid = c.read_optional.new.self in let a = c.in_err-default.ensures in let e = c.in_err-default.field-0.0 in let run = c.requires.running in
     let h = does_stop (hears g.T.Teller.wanting g.T.Teller.heard) (hears_part g.T.Teller.wanting g.T.Teller.part) (λ n. read_optional) (λ v n. fitting slots v) (lawful_plain read_optional plain_optional) (λ v. lawful_plain (fitting slots v) (plain_fitting slots v)) e old mid _ _ _ _ c.requires.sound
     (does_reads _ _ read_optional plain_optional (option_map (tokens_at mid.names)) (Err e) old mid _ _ _ _ a.tell (a.reads run) (a.spends run) (a.stops run) (a.limit run) tt a.progress a.holds tt) in
-    search (rules, h)
+    rw (passed_on c.from_residual.result c.in_err-default.field-0.0 c.from_residual.ensures) h
 
 pub returns-clause-does : goal.returns-clause-does
 returns-clause-does g c =

@@ -1,8 +1,9 @@
-use Rattle.std.proofs.Common.{Ok, Err, rules}
+use Rattle.std.proofs.Common.{Ok, Err}
 use Rattle.texml_scope.specs.Numbers.{key_at}
 use Rattle.texml_expand.specs.State.{change}
 use Rattle.texml_expand.specs.Hearing.{hears, hears_part}
 use Rattle.texml_expand.specs.Expand.{read_index}
+use Rattle.texml_expand.proofs.Stopping.{passed_on}
 use Rattle.texml_assign.proofs.Readings.{lawful_plain}
 use Rattle.texml_assign.proofs.Parts.{plain_assign}
 use Rattle.texml_assign.proofs.Doing.{does_call, does_then, does_stop, does_local, no_more}
@@ -16,7 +17,7 @@ pub returns-in_err-number : goal.returns-in_err-number
 returns-in_err-number g c =
     let run = c.requires.running in let f = c.in_err-number.ensures in let old = c.args.engine.now in let mid = c.read_index.new.self in
     let s = rw c.short_index.ensures at (does_call (hears g.T.Teller.wanting g.T.Teller.heard) (hears_part g.T.Teller.wanting g.T.Teller.part) (read_index c.short_index.result) (λ z. z) (Err c.in_err-number.field-0.0) old mid _ _ _ _ (f.follows run) (f.spends run) (f.stops run) (f.limit run) tt f.progress f.holds tt) in
-    let h = does_stop _ _ (read_index (short_index c.args.what)) (λ number n. change (assign c.args.global (key_at old.names c.args.key) (short_meaning c.args.what number))) (lawful_index_of (short_index c.args.what)) (λ number. lawful_plain (change (assign c.args.global (key_at old.names c.args.key) (short_meaning c.args.what number))) (plain_assign c.args.global (key_at old.names c.args.key) (short_meaning c.args.what number))) _ _ _ _ _ _ _ c.requires.sound s in search (rules, h)
+    let h = does_stop _ _ (read_index (short_index c.args.what)) (λ number n. change (assign c.args.global (key_at old.names c.args.key) (short_meaning c.args.what number))) (lawful_index_of (short_index c.args.what)) (λ number. lawful_plain (change (assign c.args.global (key_at old.names c.args.key) (short_meaning c.args.what number))) (plain_assign c.args.global (key_at old.names c.args.key) (short_meaning c.args.what number))) _ _ _ _ _ _ _ c.requires.sound s in record { does = rw (passed_on c.from_residual.result c.in_err-number.field-0.0 c.from_residual.ensures) h }
 
 pub assign-requires-clause-meaning : goal.assign-requires-clause-meaning
 assign-requires-clause-meaning g c = c.short_meaning.ensures.within _

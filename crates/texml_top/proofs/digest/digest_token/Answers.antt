@@ -1,4 +1,4 @@
-use Rattle.std.proofs.Common.{[], Ok, refl, ap, subst, sym, length, rules}
+use Rattle.std.proofs.Common.{[], Ok, refl, ap, subst, sym, length}
 use Rattle.texml_token.specs.Token.{Token}
 use Rattle.texml_token.specs.Numbers.{token_at, TokenWithin}
 use Rattle.texml_expand.specs.Contract.{outside}
@@ -12,6 +12,7 @@ use Rattle.texml_assign.proofs.Doing.{does_then, does_stop, does_now}
 use Rattle.texml_assign.proofs.Commands.{lawful_execute}
 use Rattle.texml_top.specs.Gather.{ops_of}
 use Rattle.texml_top.specs.Digest.{digest_left}
+use Rattle.texml_expand.proofs.Stopping.{passed_on}
 use Rattle.texml_top.proofs.Digesting.{lawful_left}
 use Rattle.texml_top.proofs.digest.digest_token.Goals as goal
 
@@ -21,7 +22,7 @@ returns-in_err-done g c = record {
       let f = c.in_err-done.ensures in let run = c.requires.running in let t = token_at c.args.engine.now.names c.args.token in
       let h = does_stop _ _ (execute t) (digest_left t) (lawful_execute t) (lawful_left t) _ c.args.engine.now c.execute.new.engine _ _ _ _ c.requires.sound
       (record { follows = f.follows run; spends = f.spends run; stops = f.stops run; limit = f.limit run; keeps = tt; advances = f.advances; holds = f.holds; shrinks = tt }) in
-      search (rules, h);
+      rw (passed_on c.from_residual.result c.in_err-done.field-0.0 c.from_residual.ensures) h;
 }
 
 pub returns-in-Yes : goal.returns-in-Yes
