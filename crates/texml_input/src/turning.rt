@@ -9,7 +9,7 @@ ghost use Rattle.texml_input.specs.Held.{File, ids_of, fences_of, aside_of, AreH
 ghost use Rattle.texml_input.specs.Keeping.{Holds, Spends, HasInputCause};
 ghost use Rattle.texml_input.specs.Answers.{given_at, GivenWithin, IsNext, LittleAfter, Loads, EndsAtFence};
 ghost use Rattle.texml_input.specs.Inside.{sources_of, written};
-ghost use Rattle.texml_input.specs.Turning.{TakesList, Turns, turn_bytes, TurnFalls, TurnWithin, TurnEnds};
+ghost use Rattle.texml_input.specs.Turning.{TakesList, TakesPlain, Turns, turn_bytes, TurnFalls, TurnWithin, TurnEnds};
 
 use crate::codes::{ScopeCodes, end_character};
 use crate::fault::{InputFault, Read};
@@ -142,8 +142,62 @@ pub fn next_read<F: Files>(
     }
 }
 
-// A turn at the front of the frames, of which the last stands in front.
+// A turn at the front of the frames, of which the last stands in front. A plain token of a file is taken where the file stands.
 pub fn take_turn<F: Files>(
+    frames: &mut Vec<Frame>,
+    place: &mut LinePlace,
+    alloc: Global,
+    scope: &Scope,
+    names: &mut Names,
+    files: &mut F,
+) -> Result<Turn, InputFault>
+    requires held { AreHeld (F.shelf files.old).ids (ids_of (sources_of frames.old.items)) }
+    requires sound { AreSound (sources_of frames.old.items) }
+    requires within { SourcesWithin (length names.old) (sources_of frames.old.items) }
+    requires numbered { Numbered names.old }
+    ensures turns { IsTrue (F.shelf files.old).tells → Turns (cats_of (world_of scope.now)) (end_of (world_of scope.now)) names.new
+        (front_size (F.shelf files.old) (sources_of frames.old.items)) (front_size (F.shelf files.new) (sources_of frames.new.items))
+        (rest_at names.old (F.shelf files.old) (sources_of frames.old.items)) place.old result
+        (rest_at names.new (F.shelf files.new) (sources_of frames.new.items)) place.new }
+    ensures holds { Holds (F.shelf files.old) (F.shelf files.new) (sources_of frames.old.items) (sources_of frames.new.items) }
+    ensures fences { fences_of (sources_of frames.new.items) ≡ fences_of (sources_of frames.old.items) }
+    ensures aside { IsTrue (F.shelf files.old).tells → aside_of (F.shelf files.new) (sources_of frames.new.items) ≡ aside_of (F.shelf files.old) (sources_of frames.old.items) }
+    ensures sound { OnOk result (AreSound (sources_of frames.new.items)) }
+    ensures within { SourcesWithin (length names.new) (sources_of frames.new.items) }
+    ensures spends { IsTrue (F.shelf files.old).tells → AreLittle (sources_of frames.old.items) → Spends (F.shelf files.old) (F.shelf files.new) (sources_of frames.old.items) (sources_of frames.new.items)
+        (turn_bytes result (front_size (F.shelf files.old) (sources_of frames.old.items))) }
+    ensures little { AreLittle (sources_of frames.old.items) → LittleAfter result (sources_of frames.new.items) }
+    ensures falls { IfOk result (λ turn. TurnFalls turn (room_of (F.shelf files.old) (sources_of frames.old.items)) (vec_len frames.old)
+        (room_of (F.shelf files.new) (sources_of frames.new.items)) (vec_len frames.new)) }
+    ensures cause { HasInputCause (F.faults files.old) (F.faults files.new) result }
+    ensures grows { Extends names.old names.new }
+    ensures numbered { Numbered names.new }
+    ensures given { IfOk result (TurnWithin (length names.new)) }
+    ensures ends { TurnEnds result (sources_of frames.new.items) }
+{
+    match plain_token(frames, scope) {
+        Some(token) => Ok(Turn::Token(token, false)),
+        None => whole_turn(frames, place, alloc, scope, names, files),
+    }
+}
+
+// Takes the next token of the file in front, where one character tells it; else nothing changes.
+fn plain_token(frames: &mut Vec<Frame>, scope: &Scope) -> Option<Token>
+    ensures takes { TakesPlain (cats_of (world_of scope.now)) (sources_of frames.old.items) result (sources_of frames.new.items) }
+    ensures len { vec_len frames.new ≡ vec_len frames.old }
+{
+    let count = frames.len();
+    if count == 0 {
+        return None;
+    }
+    if let Frame::File(file) = &mut frames[count - 1] {
+        return file.plain_token(&ScopeCodes(scope));
+    }
+    None
+}
+
+// A turn at the front of the frames, where the next token isn't plain.
+fn whole_turn<F: Files>(
     frames: &mut Vec<Frame>,
     place: &mut LinePlace,
     alloc: Global,
