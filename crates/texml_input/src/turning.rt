@@ -5,7 +5,7 @@ ghost use Rattle.texml_scope.specs.Shown.{world_of};
 ghost use Rattle.texml_input.specs.Codes.{cats_of, end_of};
 ghost use Rattle.texml_input.specs.Rest.{no_place};
 ghost use Rattle.texml_input.specs.Next.{place_at, next};
-ghost use Rattle.texml_input.specs.Held.{File, ids_of, fences_of, aside_of, AreHeld, AreSound, AreLittle, SourcesWithin, rest_at, room_of, front_size};
+ghost use Rattle.texml_input.specs.Held.{File, Plain, ids_of, fences_of, aside_of, AreHeld, AreSound, AreLittle, SourcesWithin, rest_at, room_of, front_size};
 ghost use Rattle.texml_input.specs.Keeping.{Holds, Spends, HasInputCause};
 ghost use Rattle.texml_input.specs.Answers.{given_at, GivenWithin, IsNext, LittleAfter, Loads, EndsAtFence};
 ghost use Rattle.texml_input.specs.Inside.{sources_of, written};
@@ -142,7 +142,8 @@ pub fn next_read<F: Files>(
     }
 }
 
-// A turn at the front of the frames, of which the last stands in front. A plain token of a file is taken where the file stands.
+// A turn at the front of the frames, of which the last stands in front. A token that can be taken where its frame stands is taken
+// there, so that no frame is moved.
 pub fn take_turn<F: Files>(
     frames: &mut Vec<Frame>,
     place: &mut LinePlace,
@@ -177,7 +178,66 @@ pub fn take_turn<F: Files>(
 {
     match plain_token(frames, scope) {
         Some(token) => Ok(Turn::Token(token, false)),
-        None => whole_turn(frames, place, alloc, scope, names, files),
+        None => {
+            match list_token(frames) {
+                Some(token) => Ok(Turn::Token(token, false)),
+                None => whole_turn(frames, place, alloc, scope, names, files),
+            }
+        }
+    }
+}
+
+// Takes the next token of the list in front, and the frame with the last one; else nothing changes.
+fn list_token(frames: &mut Vec<Frame>) -> Option<Token>
+    ensures takes { MatchOption result (sources_of frames.new.items ≡ sources_of frames.old.items) (λ t. sources_of frames.old.items ≡ Plain t ∷ sources_of frames.new.items) }
+    ensures len { MatchOption result (vec_len frames.new ≡ vec_len frames.old) (λ _. vec_len frames.new ≤ vec_len frames.old) }
+{
+    let count = frames.len();
+    if count == 0 {
+        return None;
+    }
+    match next_of(&mut frames[count - 1]) {
+        None => None,
+        Some(token) => {
+            drop_spent(frames);
+            Some(token)
+        }
+    }
+}
+
+// Takes the next token of a frame that is a list; else nothing changes.
+fn next_of(frame: &mut Frame) -> Option<Token>
+    ensures { MatchOption result (written frame.new ≡ written frame.old) (λ t. written frame.old ≡ Plain t ∷ written frame.new) }
+{
+    match frame {
+        Frame::List(part) => part.next(),
+        Frame::Macro(expansion) => expansion.next(),
+        _ => None,
+    }
+}
+
+// Takes away the frame in front, if it is a list of which nothing is left.
+fn drop_spent(frames: &mut Vec<Frame>)
+    ensures same { sources_of frames.new.items ≡ sources_of frames.old.items }
+    ensures len { vec_len frames.new ≤ vec_len frames.old }
+{
+    let count = frames.len();
+    if count == 0 {
+        return;
+    }
+    if is_spent(&frames[count - 1]) {
+        frames.truncate(count - 1);
+    }
+}
+
+// Whether a frame is a list of which nothing is left.
+fn is_spent(frame: &Frame) -> bool
+    ensures { IsTrue result → written frame.now ≡ [] }
+{
+    match frame {
+        Frame::List(part) => part.is_empty(),
+        Frame::Macro(expansion) => expansion.is_empty(),
+        _ => false,
     }
 }
 
@@ -196,7 +256,7 @@ fn plain_token(frames: &mut Vec<Frame>, scope: &Scope) -> Option<Token>
     None
 }
 
-// A turn at the front of the frames, where the next token isn't plain.
+// A turn at the front of the frames, whose first is moved.
 fn whole_turn<F: Files>(
     frames: &mut Vec<Frame>,
     place: &mut LinePlace,

@@ -1,7 +1,9 @@
-use Rattle.std.proofs.Common.{length}
+use Rattle.std.proofs.Common.{◌∷◌, [], length, sym, ◌∙◌}
 use Rattle.texml_scope.specs.Shown.{world_of}
 use Rattle.texml_input.specs.Codes.{cats_of, end_of}
+use Rattle.texml_input.specs.Held.{Plain}
 use Rattle.texml_input.specs.Inside.{sources_of}
+use Rattle.texml_input.proofs.Sources.{within_behind}
 use Rattle.texml_input.proofs.Plain.{plain_turn, plain_within}
 use Rattle.texml_input.proofs.turning.take_turn.Goals as goal
 
@@ -13,3 +15,8 @@ returns-in-Some-clause-turns g c = λ told.
 pub returns-in-Some-clause-within : goal.returns-in-Some-clause-within
 returns-in-Some-clause-within g c =
     plain_within (cats_of (world_of c.args.scope.now)) c.in-Some.token (sources_of c.args.frames.now.items) (sources_of c.plain_token.new.frames.items) c.in-Some.ensures.takes (length c.args.names.now) c.requires.within
+
+pub returns-in-Some-list_token-clause-within : goal.returns-in-Some-list_token-clause-within
+returns-in-Some-list_token-clause-within g c =
+    within_behind (length c.args.names.now) (sources_of c.args.frames.now.items) (Plain c.in-Some-list_token.token ∷ []) (sources_of c.list_token.new.frames.items)
+    (sym c.in-None.ensures.takes ∙ c.in-Some-list_token.ensures.takes) c.requires.within
