@@ -63,7 +63,7 @@ past_short : (b : ℕ) (bytes : List ℕ) → past_line (b ∷ bytes) ≤ length
 past_short b bytes = short_if (b == line_feed) bytes
 
 -- a byte order mark is three bytes of the first line
-marked_rows : (held : List ℕ) (rows : List Row) (short : ℕ) → past_line held ≤ short → short + 1 ≤ length held → length held ≤ past_line held + first_size rows → past_line held ≤ block → 3 + length held ≤ block + first_size (with_bytes 3 rows)
+marked_rows : (held : List ℕ) (rows : List Row) (short : ℕ) → past_line held ≤ short → short + 1 ≤ length held → length held ≤ past_line held + first_size rows → past_line held ≤ block → suc (suc (suc (length held))) ≤ block + first_size (with_bytes 3 rows)
 marked_rows held [] short p s h le = absurd (omega (arith, p, s, h))
 marked_rows held (r ∷ rows) short p s h le = omega (arith, h, le)
 
@@ -73,7 +73,7 @@ marked (a ∷ []) left le = omega arith
 marked (a ∷ b ∷ []) left le = omega arith
 marked (a ∷ b ∷ c ∷ []) left le = omega arith
 marked (a ∷ b ∷ c ∷ d ∷ held) left le =
-    marked_rows (d ∷ held) (rows_behind [] (d ∷ held ++ left)) (length held) (past_short d held) (omega arith) (held_behind (d ∷ held) [] left)
+    marked_rows (d ∷ held) (rows_behind [] (d ∷ held ++ left)) (length held) (past_short d held) (omega arith) (omega (arith, held_behind (d ∷ held) [] left))
     (omega (arith, le, past_more a (b ∷ c ∷ d ∷ held), past_more b (c ∷ d ∷ held), past_more c (d ∷ held)))
 
 held_by : (c : Bool) (held left : List ℕ) → past_line held ≤ block → length held ≤ block + first_size (if c then with_bytes 3 (rows_behind [] (drop 3 (held ++ left))) else rows_behind [] (held ++ left))
