@@ -8,9 +8,11 @@ use Rattle.texml_expand.specs.declared.stop.Stop.{Stop}
 use Rattle.texml_expand.specs.declared.stop.Stop.TheVariants as stop
 use Rattle.texml_expand.specs.State.{State, nothing, Answer, Done, Ended, Tex, Reading, chain, IsDecided, fault_at}
 use Rattle.texml_expand.specs.Hearing.{Follows, FollowsTold}
-use Rattle.texml_input.specs.Held.{ids_of}
+use Rattle.texml_input.specs.Held.{ids_of, AreLittle}
 use Rattle.texml_expand.specs.Contract.{Outside, Stops, Silent, Local, Reads, IsFaultAt, stop_after}
-use Rattle.texml_expand.specs.Held.{Held, state_of, place_of, ok_at, Sound, Kept, Progress, IsAtLimit, Owns, Holding, SameFiles, Shrinks, Puts}
+use Rattle.texml_expand.specs.Held.{Held, state_of, place_of, ok_at, Sound, Kept, Progress, IsAtLimit, Owns, Holding, readers_of, SameFiles, Shrinks, Puts}
+use Rattle.texml_expand.specs.Spending.{Spends, SpendsBy}
+use Rattle.texml_expand.proofs.Spending.{spends_same}
 use Rattle.texml_expand.proofs.Fronts.{kept_then, kept_itself}
 use Rattle.texml_expand.proofs.Meeting.{stops_as, stops_then, stops_same, silent_fails_not}
 use Rattle.texml_expand.proofs.Running.{told_on, holding_then, holding_same, files_stopped, files_same, shrinks_none, shrinks_then, shrinks_less, shrinks_puts, limit_as, keeps_then}
@@ -19,16 +21,16 @@ use Rattle.texml_assign.specs.Loop.{Next, On, Over, LoopOver, loops}
 use Rattle.texml_expand.specs.Expand.{ByDepth}
 use Rattle.texml_assign.specs.Advance.{Advances}
 use Rattle.texml_assign.specs.Doing.{Does}
-use Rattle.texml_assign.proofs.Readings.{IsUnlimited, Lawful, Sure, sure, sure_reading, Plain, chained, follows_then, follows_stop, follows_silent, follows_quiet, follows_out}
-use Rattle.texml_assign.proofs.Looping.{LawfulLoop, LoopOnward, onward_start, loop_stops, loop_ends, turn_stops, turn_over, turn_out, turn_onward}
+use Rattle.texml_assign.proofs.Readings.{IsUnlimited, Lawful, Sure, sure, sure_reading, Plain, chained, follows_then, follows_stop, follows_silent, follows_quiet, follows_out, spends_behind, spent_broken, spent_decided, spent_settled}
+use Rattle.texml_assign.proofs.Looping.{LawfulLoop, LoopOnward, onward_start, loop_stops, loop_ends, turn_stops, turn_over, turn_out, turn_onward, LoopPays, pays_start, loop_stops_pays, loop_ends_pays, turn_stops_pays, turn_over_pays, turn_out_pays, turn_onward_pays}
 
 -- Files
 
 pub files_ended : (h i : Held) (s : Option Stop) → i ≡ record h { stop = s } → SameFiles h i
-files_ended h i s e = record { ids = ap (λ (n : Held). ids_of n.input.sources) e }
+files_ended h i s e = record { ids = ap (λ (n : Held). ids_of n.input.sources) e; readers = ap (λ (n : Held). readers_of n.input.sources) e }
 
 pub files_then : {h i j : Held} → SameFiles h i → SameFiles i j → SameFiles h j
-files_then p q = record { ids = q.ids ∙ p.ids }
+files_then p q = record { ids = q.ids ∙ p.ids; readers = q.readers ∙ p.readers }
 
 -- Room
 
@@ -114,6 +116,7 @@ module _ {T : Type 0} (hear part : T → Record → T → Type 0) where
       → Does hear part r (Ok v) old mid x y a b → Does hear part (f v) result mid new y z b c → Does hear part (chained r f) result old new x z a c
   does_then_sure r f l k v result old mid new x y z a b c g h = record {
     follows = λ told. follows_then hear part r f l k v result (state_of x.shelf old) (state_of y.shelf mid) (state_of z.shelf new) a b c (g.follows told) (h.follows (told_on _ _ _ _ g.holds told));
+    spends = spends_behind hear part r f l k v result old mid new x.shelf y.shelf z.shelf a b g.follows (told_on _ _ _ _ g.holds) g.spends h.spends;
     stops = stops_then v result x y z mid.stop new.stop g.stops h.stops;
     limit = h.limit;
     keeps = keeps_then result old mid new g.keeps h.keeps;
@@ -131,6 +134,7 @@ module _ {T : Type 0} (hear part : T → Record → T → Type 0) where
       → Does hear part r (Err e) old new x y a b → Does hear part (chained r f) (Err e) old new x y a b
   does_stop_sure {A = A} {B = B} r f l k e old new x y a b sound g = record {
     follows = λ told. follows_stop hear part r f l k e (state_of x.shelf old) (state_of y.shelf new) a b (g.follows told);
+    spends = λ told little. spent_broken r f l k e (state_of x.shelf old) x.shelf y.shelf old.input.sources new.input.sources (g.spends told little);
     stops = stops_as A B e x y new.stop g.stops;
     limit = limit_as A B e new g.limit;
     keeps = tt;
@@ -150,6 +154,7 @@ module _ {T : Type 0} (hear part : T → Record → T → Type 0) where
       let s = h x.shelf in
       record {
         follows = λ told. follows_silent hear part r decided result (state_of x.shelf old) (state_of x.shelf new) a s;
+        spends = λ told little. spent_decided r decided result (state_of x.shelf old) x.shelf x.shelf old.input.sources new.input.sources (spends_same (r (state_of x.shelf old)) result x.shelf old new files told little);
         stops = stops_same result x new.stop kept (silent_fails_not (r (state_of x.shelf old)) result (state_of x.shelf new) s);
         limit = limit_none result (state_of x.shelf new) (r (state_of x.shelf old)) new (unlimited (state_of x.shelf old)) s;
         keeps = keeps;
@@ -180,6 +185,8 @@ module _ {T : Type 0} (hear part : T → Record → T → Type 0) where
       let s = h y.shelf in
       record {
         follows = λ told. follows_then hear part r (λ v n. f v) l (λ v. sure_reading (f v) (decided v)) v result (state_of x.shelf old) (state_of y.shelf mid) (state_of y.shelf new) a b b (g.follows told) (follows_silent hear part (f v) (decided v) result (state_of y.shelf mid) (state_of y.shelf new) b s);
+        spends = spends_behind hear part r (λ v n. f v) l (λ v. sure_reading (f v) (decided v)) v result old mid new x.shelf y.shelf y.shelf a b g.follows (told_on _ _ _ _ g.holds) g.spends
+            (λ told little. spent_decided (f v) (decided v) result (state_of y.shelf mid) y.shelf y.shelf mid.input.sources new.input.sources (spends_same (f v (state_of y.shelf mid)) result y.shelf mid new files told little));
         stops = stops_then v result x y y mid.stop new.stop g.stops (stops_same result y new.stop kept (silent_fails_not (f v (state_of y.shelf mid)) result (state_of y.shelf new) s));
         limit = limit_none result (state_of y.shelf new) (f v (state_of y.shelf mid)) new (unlimited v (state_of y.shelf mid)) s;
         keeps = keeps_then result old mid new g.keeps keeps;
@@ -200,9 +207,11 @@ module _ {T : Type 0} (hear part : T → Record → T → Type 0) where
 
   -- a call of the engine's own, by its clauses
   pub does_call : {A B : Type 0} (reading : ByDepth B) (f : A → B) (r : Result A Stop) (old new : Held) (x y : Outside) (a b : T) → FollowsTold hear part x.shelf (λ n. reading n (state_of x.shelf old)) (ok_at f r) (state_of y.shelf new) a b
+      → SpendsBy (λ n. reading n (state_of x.shelf old)) (ok_at f r) x.shelf y.shelf old new
       → Stops r x y new.stop → IsAtLimit r new → OnOk r (Kept old new) → Progress old new → Holding x.shelf y.shelf old new → OnOk r (Shrinks 0 x.shelf old y.shelf new) → Does hear part reading (ok_at f r) old new x y a b
-  does_call {A = A} {B = B} reading f (Ok v) old new x y a b follows stops limit keeps progress holds shrinks = record {
+  does_call {A = A} {B = B} reading f (Ok v) old new x y a b follows spends stops limit keeps progress holds shrinks = record {
     follows = follows;
+    spends = spends;
     stops = record { kept = stops.kept; reads = stops.reads; tells = stops.tells; loan = stops.loan };
     limit = tt;
     keeps = keeps;
@@ -210,8 +219,9 @@ module _ {T : Type 0} (hear part : T → Record → T → Type 0) where
     holds = holds;
     shrinks = shrinks;
   }
-  does_call {A = A} {B = B} reading f (Err e) old new x y a b follows stops limit keeps progress holds shrinks = record {
+  does_call {A = A} {B = B} reading f (Err e) old new x y a b follows spends stops limit keeps progress holds shrinks = record {
     follows = follows;
+    spends = spends;
     stops = stops_as A B e x y new.stop stops;
     limit = limit_as A B e new limit;
     keeps = tt;
@@ -221,9 +231,10 @@ module _ {T : Type 0} (hear part : T → Record → T → Type 0) where
   }
 
   pub does_asks : {A : Type 0} (reading : Reading A) → Plain reading → (r : Result A Stop) (old new : Held) (x y : Outside) (a b : T) → b ≡ a → Reads x.shelf (reading (state_of x.shelf old)) r (state_of y.shelf new)
-      → Stops r x y new.stop → IsAtLimit r new → OnOk r (Kept old new) → Progress old new → Holding x.shelf y.shelf old new → OnOk r (Shrinks 0 x.shelf old y.shelf new) → Does hear part (λ n. reading) r old new x y a b
-  does_asks reading p r old new x y a b same reads stops limit keeps progress holds shrinks = record {
+      → Spends (reading (state_of x.shelf old)) r x.shelf y.shelf old new → Stops r x y new.stop → IsAtLimit r new → OnOk r (Kept old new) → Progress old new → Holding x.shelf y.shelf old new → OnOk r (Shrinks 0 x.shelf old y.shelf new) → Does hear part (λ n. reading) r old new x y a b
+  does_asks reading p r old new x y a b same reads spends stops limit keeps progress holds shrinks = record {
     follows = λ told. subst (Follows hear part (λ n. reading (state_of x.shelf old)) r (state_of y.shelf new) a) (sym same) (follows_quiet hear part reading p.decided r (state_of x.shelf old) (state_of y.shelf new) a (reads told));
+    spends = λ told little. spent_decided reading p.decided r (state_of x.shelf old) x.shelf y.shelf old.input.sources new.input.sources (spends told little);
     stops = stops;
     limit = limit;
     keeps = keeps;
@@ -234,17 +245,18 @@ module _ {T : Type 0} (hear part : T → Record → T → Type 0) where
 
   -- one that tells nobody
   pub does_reads : {A B : Type 0} (reading : Reading B) → Plain reading → (f : A → B) (r : Result A Stop) (old new : Held) (x y : Outside) (a b : T) → b ≡ a → Reads x.shelf (reading (state_of x.shelf old)) (ok_at f r) (state_of y.shelf new)
-      → Stops r x y new.stop → IsAtLimit r new → OnOk r (Kept old new) → Progress old new → Holding x.shelf y.shelf old new → OnOk r (Shrinks 0 x.shelf old y.shelf new) → Does hear part (λ n. reading) (ok_at f r) old new x y a b
-  does_reads reading p f r old new x y a b same reads stops limit keeps progress holds shrinks =
+      → Spends (reading (state_of x.shelf old)) (ok_at f r) x.shelf y.shelf old new → Stops r x y new.stop → IsAtLimit r new → OnOk r (Kept old new) → Progress old new → Holding x.shelf y.shelf old new → OnOk r (Shrinks 0 x.shelf old y.shelf new) → Does hear part (λ n. reading) (ok_at f r) old new x y a b
+  does_reads reading p f r old new x y a b same reads spends stops limit keeps progress holds shrinks =
       does_call (λ n. reading) f r old new x y a b
       (λ told. subst (Follows hear part (λ n. reading (state_of x.shelf old)) (ok_at f r) (state_of y.shelf new) a) (sym same) (follows_quiet hear part reading p.decided (ok_at f r) (state_of x.shelf old) (state_of y.shelf new) a (reads told)))
-      stops limit keeps progress holds shrinks
+      (λ told little. spent_decided reading p.decided (ok_at f r) (state_of x.shelf old) x.shelf y.shelf old.input.sources new.input.sources (spends told little)) stops limit keeps progress holds shrinks
 
   -- want of memory
   pub does_out : {A : Type 0} (r : ByDepth A) → Lawful r → (e : Stop) (old new : Held) (x : Outside) (a : T) → Sound old → Owns x.shelf old → e ≡ stop.NoMemory → new ≡ record old { stop = Some stop.NoMemory } → Does hear part r (Err e) old new x x a a
   does_out {A = A} r l e old new x a sound owns is e' =
       subst (λ (s : Stop). Does hear part r (Err s) old new x x a a) (sym is) (record {
         follows = λ told. follows_out hear part r l (state_of x.shelf old) (state_of x.shelf new) a;
+        spends = λ told little. spent_settled r l (Err stop.NoMemory) (state_of x.shelf old) x.shelf old.input.sources new.input.sources (files_stopped old new stop.NoMemory e').readers little;
         stops = record { kept = ap (λ (h : Held). h.stop) e'; reads = refl; tells = refl; loan = refl };
         limit = tt;
         keeps = tt;
@@ -259,6 +271,9 @@ module _ {T : Type 0} (hear part : T → Record → T → Type 0) where
     follows = λ told.
         let f = g.follows told in
         record { answer = f.answer; given = record { depth = f.given.depth; is = e f.given.depth x.shelf ∙ f.given.is; decided = f.given.decided }; meets = f.meets };
+    spends = λ told little.
+        let p = g.spends told little in
+        record { answer = p.answer; given = record { depth = p.given.depth; is = e p.given.depth x.shelf ∙ p.given.is; decided = p.given.decided }; spent = p.spent };
     stops = g.stops;
     limit = g.limit;
     keeps = g.keeps;
@@ -274,6 +289,7 @@ module _ {T : Type 0} (hear part : T → Record → T → Type 0) where
       pub running : now.stop ≡ None
       pub kept : Kept old now
       pub onward : IsTrue x.shelf.tells → LoopOnward loop laws hear part first (state_of x.shelf old) a seen (state_of y.shelf now) b
+      pub pays : IsTrue x.shelf.tells → AreLittle old.input.sources → LoopPays loop laws hear part first (state_of x.shelf old) x.shelf old.input.sources seen (state_of y.shelf now) y.shelf now.input.sources
       pub calm : Stops {A = Unit {0}} (Ok tt) x y now.stop
       pub advances : Advances old now
       pub holds : Holding x.shelf y.shelf old now
@@ -284,6 +300,7 @@ module _ {T : Type 0} (hear part : T → Record → T → Type 0) where
       running = running;
       kept = kept_itself h sound;
       onward = λ told. onward_start loop laws hear part seen (state_of x.shelf h) a;
+      pays = λ told little. pays_start loop laws hear part seen (state_of x.shelf h) x.shelf h.input.sources little;
       calm = record { kept = running; reads = refl; tells = refl; loan = refl };
       advances = advances_same h h refl;
       holds = holding_same x.shelf h h owns (files_same h h refl);
@@ -291,10 +308,11 @@ module _ {T : Type 0} (hear part : T → Record → T → Type 0) where
     }
 
     -- the end of a loop, by that of its last turn
-    ends : (result : Result A Stop) (first : S) (old now new : Held) (x y z : Outside) (a b c : T) (seen : S) → Goes first old x a seen now y b → FollowsTold hear part x.shelf (λ n. loops loop first n (state_of x.shelf old)) result (state_of z.shelf new) a c
+    ends : (result : Result A Stop) (first : S) (old now new : Held) (x y z : Outside) (a b c : T) (seen : S) → Goes first old x a seen now y b → FollowsTold hear part x.shelf (λ n. loops loop first n (state_of x.shelf old)) result (state_of z.shelf new) a c → SpendsBy (λ n. loops loop first n (state_of x.shelf old)) result x.shelf z.shelf old new
         → Stops result y z new.stop → IsAtLimit result new → OnOk result (Kept now new) → Advances now new → Holding y.shelf z.shelf now new → OnOk result (Shrinks 0 y.shelf now z.shelf new) → Does hear part (loops loop first) result old new x z a c
-    ends result first old now new x y z a b c seen g follows stops limit keeps advances holds shrinks = record {
+    ends result first old now new x y z a b c seen g follows spends stops limit keeps advances holds shrinks = record {
       follows = follows;
+      spends = spends;
       stops = stops_then tt result x y z now.stop new.stop g.calm stops;
       limit = limit;
       keeps = keeps_then result old now new g.kept keeps;
@@ -308,6 +326,7 @@ module _ {T : Type 0} (hear part : T → Record → T → Type 0) where
     goes_stops e first seen old now new x y z a b c g d =
         ends (Err e) first old now new x y z a b c seen g
         (λ told. loop_stops loop laws hear part e first seen (state_of x.shelf old) (state_of y.shelf now) (state_of z.shelf new) a b c (g.onward told) (d.follows (told_on _ _ _ _ g.holds told)))
+        (λ told little. loop_stops_pays loop laws hear part first seen (state_of x.shelf old) (state_of y.shelf now) x.shelf y.shelf old.input.sources now.input.sources (g.pays told little) e z.shelf new.input.sources (d.spends (told_on _ _ _ _ g.holds told)))
         (stops_as (Option X) A e y z new.stop d.stops) (limit_as (Option X) A e new d.limit) tt d.advances d.holds tt
 
     -- the end of what is to be read
@@ -316,6 +335,7 @@ module _ {T : Type 0} (hear part : T → Record → T → Type 0) where
     goes_ends result first seen old now mid new x y z w a b c d g s e =
         ends result first old now new x y w a b d seen g
         (λ told. loop_ends loop laws hear part result first seen (state_of x.shelf old) (state_of y.shelf now) (state_of z.shelf mid) (state_of w.shelf new) a b c d (g.onward told) (s.follows (told_on _ _ _ _ g.holds told)) (e.follows (told_on _ _ _ _ s.holds (told_on _ _ _ _ g.holds told))))
+        (λ told little. let on = told_on _ _ _ _ g.holds told in loop_ends_pays loop laws hear part first seen (state_of x.shelf old) (state_of y.shelf now) x.shelf y.shelf old.input.sources now.input.sources (g.pays told little) (state_of z.shelf mid) z.shelf mid.input.sources b c result w.shelf new.input.sources (s.follows on) (s.spends on) (e.spends (told_on _ _ _ _ s.holds on)))
         (stops_then None result y z w mid.stop new.stop s.stops e.stops) e.limit (keeps_then result now mid new s.keeps e.keeps) (advances_then now mid new s.advances e.advances) (holding_then _ _ _ _ _ _ s.holds e.holds) (shrinks_behind result _ _ s.shrinks e.shrinks)
 
     -- a turn that stops
@@ -324,6 +344,7 @@ module _ {T : Type 0} (hear part : T → Record → T → Type 0) where
     goes_turn_stops t e first seen old now mid new x y z w a b c d g s h =
         ends (Err e) first old now new x y w a b d seen g
         (λ told. turn_stops loop laws hear part t e first seen (state_of x.shelf old) (state_of y.shelf now) (state_of z.shelf mid) (state_of w.shelf new) a b c d (g.onward told) (s.follows (told_on _ _ _ _ g.holds told)) (h.follows (told_on _ _ _ _ s.holds (told_on _ _ _ _ g.holds told))))
+        (λ told little. let on = told_on _ _ _ _ g.holds told in turn_stops_pays loop laws hear part first seen (state_of x.shelf old) (state_of y.shelf now) x.shelf y.shelf old.input.sources now.input.sources (g.pays told little) (state_of z.shelf mid) z.shelf mid.input.sources b c t (s.follows on) (s.spends on) e w.shelf new.input.sources (h.spends (told_on _ _ _ _ s.holds on)))
         (stops_then (Some t) (Err e) y z w mid.stop new.stop s.stops (stops_as (Next S A) A e z w new.stop h.stops)) (limit_as (Next S A) A e new h.limit) tt (advances_then now mid new s.advances h.advances) (holding_then _ _ _ _ _ _ s.holds h.holds) tt
 
     -- a turn behind which it is over
@@ -333,6 +354,7 @@ module _ {T : Type 0} (hear part : T → Record → T → Type 0) where
         let s' = stops_then (Some t) (Ok (Over v)) y z w mid.stop new.stop s.stops h.stops in
         ends (Ok v) first old now new x y w a b d seen g
         (λ told. turn_over loop laws hear part t v first seen (state_of x.shelf old) (state_of y.shelf now) (state_of z.shelf mid) (state_of w.shelf new) a b c d (g.onward told) (s.follows (told_on _ _ _ _ g.holds told)) (h.follows (told_on _ _ _ _ s.holds (told_on _ _ _ _ g.holds told))))
+        (λ told little. let on = told_on _ _ _ _ g.holds told in turn_over_pays loop laws hear part first seen (state_of x.shelf old) (state_of y.shelf now) x.shelf y.shelf old.input.sources now.input.sources (g.pays told little) (state_of z.shelf mid) z.shelf mid.input.sources b c t (s.follows on) (s.spends on) (state_of w.shelf new) w.shelf new.input.sources d v (h.follows (told_on _ _ _ _ s.holds on)) (h.spends (told_on _ _ _ _ s.holds on)))
         (record { kept = s'.kept; reads = s'.reads; tells = s'.tells; loan = s'.loan }) tt (kept_then now mid new s.keeps h.keeps) (advances_then now mid new s.advances h.advances) (holding_then _ _ _ _ _ _ s.holds h.holds) (shrinks_on s.shrinks h.shrinks)
 
     -- want of memory behind a turn
@@ -343,6 +365,7 @@ module _ {T : Type 0} (hear part : T → Record → T → Type 0) where
         subst (λ (k : Stop). Does hear part (loops loop first) (Err k) old new x w a d) (sym is)
         (ends (Err stop.NoMemory) first old now new x y w a b d seen g
         (λ told. turn_out loop laws hear part t next first seen (state_of x.shelf old) (state_of y.shelf now) (state_of z.shelf mid) (state_of w.shelf far) (state_of w.shelf new) a b c d (g.onward told) (s.follows (told_on _ _ _ _ g.holds told)) (h.follows (told_on _ _ _ _ s.holds (told_on _ _ _ _ g.holds told))))
+        (λ told little. let on = told_on _ _ _ _ g.holds told in turn_out_pays loop laws hear part first seen (state_of x.shelf old) (state_of y.shelf now) x.shelf y.shelf old.input.sources now.input.sources (g.pays told little) (state_of z.shelf mid) z.shelf mid.input.sources b c t (s.follows on) (s.spends on) (state_of w.shelf far) w.shelf far.input.sources d next new.input.sources (files_stopped far new stop.NoMemory e').readers (h.follows (told_on _ _ _ _ s.holds on)) (h.spends (told_on _ _ _ _ s.holds on)))
         (record { kept = ap (λ (h : Held). h.stop) e'; reads = s'.reads; tells = s'.tells; loan = s'.loan }) tt tt
         (advances_then now far new (advances_then now mid far s.advances h.advances) (advances_stopped far new (Some stop.NoMemory) e'))
         (holding_then _ _ _ _ _ _ (holding_then _ _ _ _ _ _ s.holds h.holds) (holding_same w.shelf far new h.holds.owns (files_stopped far new stop.NoMemory e'))) tt)
@@ -357,6 +380,9 @@ module _ {T : Type 0} (hear part : T → Record → T → Type 0) where
           running = s'.kept;
           kept = kept_then old now new g.kept (kept_then now mid new s.keeps h.keeps);
           onward = λ told. turn_onward loop laws hear part t first seen more (state_of x.shelf old) (state_of y.shelf now) (state_of z.shelf mid) (state_of w.shelf new) a b c d (g.onward told) (s.follows (told_on _ _ _ _ g.holds told)) (h.follows (told_on _ _ _ _ s.holds (told_on _ _ _ _ g.holds told)));
+          pays = λ told little.
+              let on = told_on _ _ _ _ g.holds told in
+              turn_onward_pays loop laws hear part first seen (state_of x.shelf old) (state_of y.shelf now) x.shelf y.shelf old.input.sources now.input.sources (g.pays told little) (state_of z.shelf mid) z.shelf mid.input.sources b c t (s.follows on) (s.spends on) (state_of w.shelf new) w.shelf new.input.sources d more (h.follows (told_on _ _ _ _ s.holds on)) (h.spends (told_on _ _ _ _ s.holds on));
           calm = record { kept = t'.kept; reads = t'.reads; tells = t'.tells; loan = t'.loan };
           advances = advances_then old now new g.advances (advances_then now mid new s.advances h.advances);
           holds = holding_then _ _ _ _ _ _ g.holds (holding_then _ _ _ _ _ _ s.holds h.holds);

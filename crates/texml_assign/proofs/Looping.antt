@@ -1,16 +1,21 @@
 -- A loop over tokens is lawful where its parts are, and each token leaves less to be read.
-use Rattle.std.proofs.Common.{◌-◌, ◌<◌, ◌≤◌, ℕ, zero, suc, Option, Some, None, Result, Ok, Err, refl, sym, arith, inl, inr, eq-or-lt_of_le}
+use Rattle.std.proofs.Common.{◌≡◌, ◌-◌, ◌<◌, ◌≤◌, ℕ, zero, suc, List, Option, Some, None, Result, Ok, Err, refl, sym, arith, inl, inr, eq-or-lt_of_le}
 use Rattle.texml_watch.specs.declared.record.Record.{Record}
 use Rattle.texml_expand.specs.declared.stop.Stop.{Stop}
 use Rattle.texml_expand.specs.declared.stop.Stop.TheVariants as stop
-use Rattle.texml_expand.specs.State.{State, room, Reading, give}
+use Rattle.texml_expand.specs.State.{State, room, Reading, added, give}
 use Rattle.texml_expand.specs.Contract.{Lower}
 use Rattle.texml_expand.specs.Hearing.{Follows}
 use Rattle.texml_expand.proofs.Readings.{Grows, grows_refl, chain_grows, Mono, Settles, settles_chain}
 use Rattle.texml_expand.proofs.Leading.{Leads, leads_at, lower_none, lower_then, count}
 use Rattle.texml_assign.specs.Loop.{Next, On, Over, LoopOver, looped, turned, loops}
 use Rattle.texml_expand.specs.Expand.{ByDepth}
-use Rattle.texml_assign.proofs.Readings.{Lawful, sure, Plain, chained, lawful_plain, plain_give, falls_then, follows_then, follows_stop, follows_silent, follows_out}
+use Rattle.texml_base.specs.Outside.{Shelf}
+use Rattle.texml_input.specs.Held.{Source, AreLittle}
+use Rattle.texml_expand.specs.Held.{readers_of}
+use Rattle.texml_expand.specs.Spending.{SpentBy}
+use Rattle.texml_expand.proofs.Spending.{spent_little}
+use Rattle.texml_assign.proofs.Readings.{Lawful, Sure, sure, spent_behind, spent_broken, spent_settled, Plain, chained, lawful_plain, plain_give, falls_then, follows_then, follows_stop, follows_silent, follows_out}
 
 -- the parts of a loop are lawful, and the tokens that come lower what is left
 pub record LawfulLoop {X S A : Type 0} (loop : LoopOver X S A) : Type 0 where
@@ -128,6 +133,16 @@ module _ {X S A : Type 0} (loop : LoopOver X S A) (laws : LawfulLoop loop) where
   lawful_token : (seen : S) (o : Option X) → Lawful (token_at_depth seen o)
   lawful_token seen o = record { mono = token_mono seen o; settles = token_settled seen o; falls = λ n s. token_falls n (loop_falls n) seen o s }
 
+  -- what files gave in it, turn by turn
+  step_spent : {B : Type 0} (seen : S) (r : Result B Stop) (now : State) (s t : Shelf) (i j : List Source) → SpentBy (λ n. chained loop.source (token_at_depth seen) n now) r s t i j → SpentBy (λ n. loops loop seen n now) r s t i j
+  step_spent seen r now s t i j p = record { answer = p.answer; given = record { depth = suc p.given.depth; is = p.given.is; decided = p.given.decided }; spent = p.spent }
+
+  sure_token : (seen : S) (o : Option X) → Sure (token_at_depth seen o)
+  sure_token seen o = sure (token_at_depth seen o) (lawful_token seen o)
+
+  sure_next : (next : Next S A) → Sure (next_at_depth next)
+  sure_next next = sure (next_at_depth next) (lawful_next next)
+
   -- the loop in the code, turn by turn
   module _ {T : Type 0} (hear part : T → Record → T → Type 0) where
     -- one turn more, by what follows the source
@@ -183,3 +198,62 @@ module _ {X S A : Type 0} (loop : LoopOver X S A) (laws : LawfulLoop loop) where
         → Follows hear part (λ n. loop.turn seen t n mid) (Ok next) far c d → Follows hear part (λ n. loops loop first n old) (Err stop.NoMemory) new a d
     turn_out t next first seen old now mid far new a b c d o g h =
         o.on (Err stop.NoMemory) new d (by_turn t next (Err stop.NoMemory) seen now mid far new b c d d g h (follows_out hear part (next_at_depth next) (lawful_next next) far new d))
+
+    -- what files gave from now on and before is what the whole loop loads
+    pub record LoopPays (first : S) (old : State) (s : Shelf) (i : List Source) (seen : S) (now : State) (t : Shelf) (j : List Source) : Type 0 where
+      pub little : AreLittle j
+      pub on : (r : Result A Stop) (u : Shelf) (k : List Source) → SpentBy (λ n. loops loop seen n now) r t u j k → SpentBy (λ n. loops loop first n old) r s u i k
+
+    pub pays_start : (seen : S) (now : State) (s : Shelf) (i : List Source) → AreLittle i → LoopPays seen now s i seen now s i
+    pays_start seen now s i little = record { little = little; on = λ r u k p. p }
+
+    source_spent : (seen : S) (o : Option X) (r : Result A Stop) (now mid : State) (s t u : Shelf) (i j k : List Source) (b c : T) → Follows hear part (λ n. loop.source n now) (Ok o) mid b c → SpentBy (λ n. loop.source n now) (Ok o) s t i j
+        → (AreLittle j → SpentBy (λ n. token_at_depth seen o n mid) r t u j k) → SpentBy (λ n. loops loop seen n now) r s u i k
+    source_spent seen o r now mid s t u i j k b c g p next =
+        step_spent seen r now s u i k (spent_behind hear part loop.source (token_at_depth seen) laws.source (sure_token seen) o r now mid s t u i j k b c g p next)
+
+    turn_spent : (t : X) (next : Next S A) (r : Result A Stop) (seen : S) (mid far : State) (s u v : Shelf) (i j k : List Source) (c d : T) → Follows hear part (λ n. loop.turn seen t n mid) (Ok next) far c d → SpentBy (λ n. loop.turn seen t n mid) (Ok next) s u i j
+        → (AreLittle j → SpentBy (λ n. next_at_depth next n far) r u v j k) → SpentBy (λ n. token_at_depth seen (Some t) n mid) r s v i k
+    turn_spent t next r seen mid far s u v i j k c d g p more = spent_behind hear part (loop.turn seen t) next_at_depth (laws.turn seen t) sure_next next r mid far s u v i j k c d g p more
+
+    module _ (first seen : S) (old now : State) (s t : Shelf) (i j : List Source) (o : LoopPays first old s i seen now t j) where
+      -- no token can be had
+      pub loop_stops_pays : (e : Stop) (u : Shelf) (k : List Source) → (AreLittle j → SpentBy {B = Option X} (λ n. loop.source n now) (Err e) t u j k) → SpentBy {B = A} (λ n. loops loop first n old) (Err e) s u i k
+      loop_stops_pays e u k p = o.on (Err e) u k (step_spent seen (Err e) now t u j k (spent_broken loop.source (token_at_depth seen) laws.source (sure_token seen) e now t u j k (p o.little)))
+
+      module _ (mid : State) (u : Shelf) (k : List Source) (b c : T) where
+        -- the end of what is to be read
+        pub loop_ends_pays : (r : Result A Stop) (v : Shelf) (l : List Source) → Follows hear part (λ n. loop.source n now) (Ok None) mid b c → (AreLittle j → SpentBy {B = Option X} (λ n. loop.source n now) (Ok None) t u j k)
+            → (AreLittle k → SpentBy (λ n. loop.end seen mid) r u v k l) → SpentBy (λ n. loops loop first n old) r s v i l
+        loop_ends_pays r v l g p q = o.on r v l (source_spent seen None r now mid t u v j k l b c g (p o.little) q)
+
+        module _ (x : X) (g : Follows hear part (λ n. loop.source n now) (Ok (Some x)) mid b c) (p : AreLittle j → SpentBy (λ n. loop.source n now) (Ok (Some x)) t u j k) where
+          -- a turn that stops
+          pub turn_stops_pays : (e : Stop) (v : Shelf) (l : List Source) → (AreLittle k → SpentBy {B = Next S A} (λ n. loop.turn seen x n mid) (Err e) u v k l) → SpentBy {B = A} (λ n. loops loop first n old) (Err e) s v i l
+          turn_stops_pays e v l q =
+              o.on (Err e) v l (source_spent seen (Some x) (Err e) now mid t u v j k l b c g (p o.little) (λ small. spent_broken (loop.turn seen x) next_at_depth (laws.turn seen x) sure_next e mid u v k l (q small)))
+
+          module _ (far : State) (v : Shelf) (l : List Source) (d : T) where
+            -- a turn behind which it is over
+            pub turn_over_pays : (w : A) → Follows hear part (λ n. loop.turn seen x n mid) (Ok (Over w)) far c d → (AreLittle k → SpentBy {B = Next S A} (λ n. loop.turn seen x n mid) (Ok (Over w)) u v k l) → SpentBy (λ n. loops loop first n old) (Ok w) s v i l
+            turn_over_pays w h q =
+                o.on (Ok w) v l (source_spent seen (Some x) (Ok w) now mid t u v j k l b c g (p o.little)
+                (λ small. turn_spent x (Over w) (Ok w) seen mid far u v v k l l c d h (q small) (λ fine. spent_settled (λ n. give w) (lawful_plain (give w) (plain_give w)) (Ok w) far v l l refl fine)))
+
+            -- a turn behind which it goes on
+            pub turn_onward_pays : (more : S) → Follows hear part (λ n. loop.turn seen x n mid) (Ok (On more)) far c d → (AreLittle k → SpentBy {B = Next S A} (λ n. loop.turn seen x n mid) (Ok (On more)) u v k l) → LoopPays first old s i more far v l
+            turn_onward_pays more h q =
+                let a = p o.little in
+                let small = spent_little (Some x) t u j k (added a.answer) a.spent in
+                let b' = q small in
+                record {
+                  little = spent_little (On more) u v k l (added b'.answer) b'.spent;
+                  on = λ r w m z. o.on r w m (source_spent seen (Some x) r now mid t u w j k m b c g a (λ small. turn_spent x (On more) r seen mid far u v w k l m c d h (q small) (λ fine. z)));
+                }
+
+            -- want of memory behind a turn
+            pub turn_out_pays : (next : Next S A) (m : List Source) → readers_of m ≡ readers_of l → Follows hear part (λ n. loop.turn seen x n mid) (Ok next) far c d → (AreLittle k → SpentBy (λ n. loop.turn seen x n mid) (Ok next) u v k l)
+                → SpentBy {B = A} (λ n. loops loop first n old) (Err stop.NoMemory) s v i m
+            turn_out_pays next m same h q =
+                o.on (Err stop.NoMemory) v m (source_spent seen (Some x) (Err stop.NoMemory) now mid t u v j k m b c g (p o.little)
+                (λ small. turn_spent x next (Err stop.NoMemory) seen mid far u v v k l m c d h (q small) (λ fine. spent_settled (next_at_depth next) (lawful_next next) (Err stop.NoMemory) far v l m same fine)))

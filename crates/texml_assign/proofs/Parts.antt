@@ -40,12 +40,12 @@ same_room s t limit nesting begun less = record { limit = limit; nesting = nesti
 
 -- Tokens
 
-token_unlimited : (b : Bool) (t : Taken) (s : State) → IsUnlimited (take_token b t s)
-token_unlimited true t s = tt
-token_unlimited false t s = tt
+token_unlimited : (b : Bool) (t : Taken) (bytes : ℕ) (s : State) → IsUnlimited (take_token b t bytes s)
+token_unlimited true t bytes s = tt
+token_unlimited false t bytes s = tt
 
 given_unlimited : (s : State) (g : Given) → IsUnlimited (take_given g s)
-given_unlimited s (Got t rest place bytes) = token_unlimited (s.absorbing && t.crossed) t (record s { rest = rest; place = place })
+given_unlimited s (Got t rest place bytes) = token_unlimited (s.absorbing && t.crossed) t bytes (record s { rest = rest; place = place })
 given_unlimited s (AtEnd place bytes) = tt
 given_unlimited s (Invalid c place bytes) = tt
 given_unlimited s (NotUtf8 place bytes) = tt

@@ -1,18 +1,23 @@
 -- Readings by the depth of the calls in them: what some depth decides each deeper one does, some depth decides, and no more is left to be read.
-use Rattle.std.proofs.Common.{ℕ, Bool, true, false, if◌then◌else◌, List, [], Result, Ok, Err, refl, ◌∙◌, subst, arith}
+use Rattle.std.proofs.Common.{◌≡◌, ℕ, IsTrue, Bool, true, false, if◌then◌else◌, List, [], Result, Ok, Err, refl, sym, ◌∙◌, subst, arith}
 use Rattle.texml_watch.specs.declared.record.Record.{Record}
 use Rattle.texml_expand.specs.declared.stop.Stop.{Stop}
 use Rattle.texml_expand.specs.declared.stop.Stop.TheVariants as stop
 use Rattle.texml_expand.specs.State.{State, Gains, Tex, Limit, Answer, Done, Ended, Unfinished, Reading, after, chain, added, IsDecided, give, fail, change}
 use Rattle.texml_expand.specs.Contract.{Lower, Silent, Quiet}
+use Rattle.texml_base.specs.Outside.{Shelf}
+use Rattle.texml_input.specs.Held.{Source, AreLittle}
+use Rattle.texml_expand.specs.Held.{Held, state_of, readers_of}
+use Rattle.texml_expand.specs.Spending.{Spent, SpentBy, SpendsBy}
 use Rattle.texml_expand.specs.Hearing.{Meets, Follows}
 use Rattle.texml_expand.proofs.Leading.{Leads, leads_chain, leads_at, leads_weaker, lower_none, lower_then}
 use Rattle.texml_expand.proofs.Deciding.{any, chain_decided}
-use Rattle.texml_expand.proofs.Readings.{grows_refl, Mono, mono_chain, Settles, settles_chain, decides_at, decides_then, chain_decides}
+use Rattle.texml_expand.proofs.Readings.{grows_refl, Mono, mono_chain, Settles, settles_chain, decides_at, decides_one, decides_then, chain_decides}
 use Rattle.texml_expand.proofs.Lawful.{By, Lawful as LawfulCalls}
 use Rattle.texml_expand.proofs.Levels.{level_falls}
 use Rattle.texml_expand.proofs.Total.{mono_at, settles_at}
-use Rattle.texml_expand.proofs.Meeting.{meets_then, meets_stop, meets_silent, part_untold}
+use Rattle.texml_expand.proofs.Meeting.{meets_then, meets_stop, meets_silent, meets_quiet, part_untold}
+use Rattle.texml_expand.proofs.Spending.{added_after, spent_same, spent_err, spent_chain, spent_little, spent_then}
 use Rattle.texml_expand.specs.Expand.{ByDepth, level}
 
 -- one reading and then another
@@ -141,12 +146,7 @@ module _ {T : Type 0} (hear part : T → Record → T → Type 0) where
 
   -- one that asks files
   pub follows_quiet : {A : Type 0} (r : Reading A) → ((s : State) → IsDecided (r s)) → (x : Result A Stop) (s new : State) (a : T) → Quiet (r s) x new → Follows hear part (λ n. r s) x new a a
-  follows_quiet r decided (Ok v) s new a h = follows_silent r decided (Ok v) s new a h
-  follows_quiet r decided (Err (stop.Tex f)) s new a h = follows_silent r decided (Err (stop.Tex f)) s new a h
-  follows_quiet r decided (Err (stop.Limit n)) s new a h = follows_silent r decided (Err (stop.Limit n)) s new a h
-  follows_quiet r decided (Err stop.ReadFailed) s new a h = record { answer = r s; given = record { depth = 0; is = refl; decided = decided s }; meets = record { rows = []; more = (added (r s)).records; is = refl; heard = refl } }
-  follows_quiet r decided (Err stop.TellFailed) s new a h = absurd h
-  follows_quiet r decided (Err stop.NoMemory) s new a h = follows_silent r decided (Err stop.NoMemory) s new a h
+  follows_quiet r decided x s new a h = record { answer = r s; given = record { depth = 0; is = refl; decided = decided s }; meets = meets_quiet hear part (r s) x new a h }
 
   -- what a reading leads to holds behind a call
   pub follows_leads : {A : Type 0} (P : A → State → Type 0) (r : ByDepth A) (v : A) (s new : State) (a b : T) → ((n : ℕ) → Leads P (r n s)) → Follows hear part (λ n. r n s) (Ok v) new a b → P v new
@@ -160,3 +160,41 @@ module _ {T : Type 0} (hear part : T → Record → T → Type 0) where
   follows_out r l s new a =
       let h = l.settles s in
       record { answer = r h.at s; given = decides_at (λ n. r n s) h; meets = part_untold hear part (r h.at s) a }
+
+-- what the files of the code's calls gave
+module _ {T : Type 0} (hear part : T → Record → T → Type 0) where
+  -- a call that answers, and what follows it
+  pub spent_behind : {A B : Type 0} (r : ByDepth A) (f : A → ByDepth B) → Lawful r → ((v : A) → Sure (f v)) → (v : A) (x : Result B Stop) (first mid : State) (s t u : Shelf) (i j k : List Source) (a b : T) → Follows hear part (λ n. r n first) (Ok v) mid a b
+      → SpentBy (λ n. r n first) (Ok v) s t i j → (AreLittle j → SpentBy (λ n. f v n mid) x t u j k) → SpentBy (λ n. chained r f n first) x s u i k
+  spent_behind r f l m v x first mid s t u i j k a b g p next =
+      let gains = g.meets.gains in
+      let is : p.answer ≡ Done v mid gains = decides_one (λ n. r n first) (l.mono first) p.answer g.answer p.given g.given ∙ g.meets.is in
+      let paid : Spent (Ok v) s t i j gains = subst (λ y. Spent (Ok v) s t i j (added y)) is p.spent in
+      let q = next (spent_little v s t i j gains paid) in
+      record {
+        answer = after gains q.answer;
+        given = decides_then (λ n. r n first) (λ n v. f v n) (l.mono first) (λ v t. (m v).mono t) v mid gains g.answer q.answer g.meets.is g.given q.given;
+        spent = subst (Spent x s u i k) (sym (added_after gains q.answer)) (spent_then v x s t u i j k gains (added q.answer) paid (λ small. q.spent));
+      }
+
+  pub spends_behind : {A B : Type 0} (r : ByDepth A) (f : A → ByDepth B) → Lawful r → ((v : A) → Sure (f v)) → (v : A) (x : Result B Stop) (old mid new : Held) (s t u : Shelf) (a b : T)
+      → (IsTrue s.tells → Follows hear part (λ n. r n (state_of s old)) (Ok v) (state_of t mid) a b) → (IsTrue s.tells → IsTrue t.tells) → SpendsBy (λ n. r n (state_of s old)) (Ok v) s t old mid
+      → SpendsBy (λ n. f v n (state_of t mid)) x t u mid new → SpendsBy (λ n. chained r f n (state_of s old)) x s u old new
+  spends_behind r f l m v x old mid new s t u a b follows on p q told little =
+      spent_behind r f l m v x (state_of s old) (state_of t mid) s t u old.input.sources mid.input.sources new.input.sources a b (follows told) (p told little) (λ small. q (on told) small)
+
+-- a call that stops
+pub spent_broken : {A B : Type 0} (r : ByDepth A) (f : A → ByDepth B) → Lawful r → ((v : A) → Sure (f v)) → (e : Stop) (first : State) (s t : Shelf) (i j : List Source) → SpentBy {B = A} (λ n. r n first) (Err e) s t i j → SpentBy {B = B} (λ n. chained r f n first) (Err e) s t i j
+spent_broken {A = A} {B = B} r f l k e first s t i j p =
+    let c = chain_decides (λ n. r n first) (λ n v. f v n) (l.mono first) (λ v t. (k v).mono t) p.answer p.given (λ v t gains is. (k v).settles t) in
+    record { answer = chain p.answer (λ _ _. c.0); given = c.1; spent = spent_chain p.answer (λ _ _. c.0) (Err e) s t i j (spent_err A B e s t i j (added p.answer) p.spent) }
+
+-- one that decides at once
+pub spent_decided : {A B : Type 0} (r : Reading A) → ((s : State) → IsDecided (r s)) → (x : Result B Stop) (first : State) (s t : Shelf) (i j : List Source) → Spent x s t i j (added (r first)) → SpentBy (λ n. r first) x s t i j
+spent_decided r decided x first s t i j p = record { answer = r first; given = record { depth = 0; is = refl; decided = decided first }; spent = p }
+
+-- files aren't asked
+pub spent_settled : {A B : Type 0} (r : ByDepth A) → Lawful r → (x : Result B Stop) (first : State) (shelf : Shelf) (i j : List Source) → readers_of j ≡ readers_of i → AreLittle i → SpentBy (λ n. r n first) x shelf shelf i j
+spent_settled r l x first shelf i j same little =
+    let h = l.settles first in
+    record { answer = r h.at first; given = decides_at (λ n. r n first) h; spent = spent_same x shelf i j (added (r h.at first)) same little }

@@ -91,7 +91,7 @@ pub advances_names : (h new : Held) (names : Table) (s : Option Stop) → Extend
 advances_names h new names s g e = subst (Advances h) (sym e) (record { names = g; begun = omega arith; limit = refl; writes = omega arith })
 
 pub files_names : (h new : Held) (names : Table) (s : Option Stop) → new ≡ record h { names = names; stop = s } → SameFiles h new
-files_names h new names s e = subst (SameFiles h) (sym e) (record { ids = refl })
+files_names h new names s e = subst (SameFiles h) (sym e) (record { ids = refl; readers = refl })
 
 -- tokens were put before the rest, or memory was refused
 abbrev pub IsPut : (h new : Held) → (State → State) → Result (Unit {0}) Stop → Type 0
@@ -111,7 +111,7 @@ scope_kept h new scope writes sound covered is = subst (Kept h) (sym is) (record
 
 -- a changed world leaves as much to read as is kept for after its groups
 pub files_wrote : (h new : Held) (scope : Shown) (writes : ℕ) → new ≡ record h { scope = scope; writes = writes } → SameFiles h new
-files_wrote h new scope writes e = subst (SameFiles h) (sym e) (record { ids = refl })
+files_wrote h new scope writes e = subst (SameFiles h) (sym e) (record { ids = refl; readers = refl })
 
 pub puts_scope : (k : ℕ) (h new : Held) (scope : Shown) (writes : ℕ) → kept_after (world_of scope).groups ≤ kept_after (world_of h.scope).groups + k → new ≡ record h { scope = scope; writes = writes } → Puts k h new
 puts_scope k h new scope writes le e = subst (Puts k h) (sym e) (record { limit = refl; nesting = refl; begun = refl; room = λ shelf. omega arith })
@@ -220,7 +220,7 @@ gone_kept h mid sound is = record { grows = subst (λ (m : Held). Extends h.name
 
 -- a token is kept
 pub files_set : (h mid : Held) (t : Option TokenCode) → mid ≡ record h { kept = t } → SameFiles h mid
-files_set h mid t is = subst (SameFiles h) (sym is) (record { ids = refl })
+files_set h mid t is = subst (SameFiles h) (sym is) (record { ids = refl; readers = refl })
 
 pub puts_set : (h mid : Held) (t : TokenCode) → mid ≡ record h { kept = Some t } → Puts 1 h mid
 puts_set h mid t is = subst (Puts 1 h) (sym is) (record { limit = refl; nesting = refl; begun = refl; room = λ shelf. omega arith })

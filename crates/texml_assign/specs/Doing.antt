@@ -5,6 +5,7 @@ use Rattle.texml_watch.specs.declared.record.Record.{Record}
 use Rattle.texml_expand.specs.declared.stop.Stop.{Stop}
 use Rattle.texml_expand.specs.Contract.{Outside, Stops}
 use Rattle.texml_expand.specs.Hearing.{FollowsTold}
+use Rattle.texml_expand.specs.Spending.{SpendsBy}
 use Rattle.texml_expand.specs.Held.{Held, state_of, Kept, IsAtLimit, Holding, Shrinks}
 use Rattle.texml_assign.specs.Loop.{ByDepth}
 use Rattle.texml_assign.specs.Advance.{Advances}
@@ -12,6 +13,7 @@ use Rattle.texml_assign.specs.Advance.{Advances}
 -- it follows a reading, its stop is kept and has a cause, the engine stays sound, its files are all that are open, and no more is left to read
 pub record Does {T : Type 0} (hear part : T → Record → T → Type 0) {A : Type 0} (reading : ByDepth A) (result : Result A Stop) (old new : Held) (before now : Outside) (a b : T) : Type 0 where
   pub follows : FollowsTold hear part before.shelf (λ n. reading n (state_of before.shelf old)) result (state_of now.shelf new) a b
+  pub spends : SpendsBy (λ n. reading n (state_of before.shelf old)) result before.shelf now.shelf old new
   pub stops : Stops result before now new.stop
   pub limit : IsAtLimit result new
   pub keeps : OnOk result (Kept old new)

@@ -7,6 +7,7 @@ ghost use Rattle.texml_scope.specs.Numbers.{meaning_at};
 ghost use Rattle.texml_expand.specs.State.{State};
 ghost use Rattle.texml_expand.specs.Contract.{AnswersKept, Stops, outside};
 ghost use Rattle.texml_expand.specs.Hearing.{hears, hears_part, FollowsTold};
+ghost use Rattle.texml_expand.specs.Spending.{SpendsBy};
 ghost use Rattle.texml_expand.specs.Held.{state_of, Sound, Kept, IsAtLimit, Owns, Holding, Shrinks};
 ghost use Rattle.texml_assign.specs.Advance.{Advances};
 ghost use Rattle.texml_assign.specs.Doing.{Does};
@@ -65,6 +66,7 @@ enum Behind {
 /// `Limit` where one expansion too many would begin there. `TellFailed` only where the count of faults of `tell` rose in this
 /// call, `NoMemory` where memory was refused; the records told until then are the first of those that would be told. And the
 /// stop that is kept.
+#[inline(always)]
 pub fn execute<F: Files, T: Teller>(
     alloc: Global,
     engine: &mut Engine,
@@ -76,6 +78,7 @@ pub fn execute<F: Files, T: Teller>(
     requires owns { Owns (F.shelf files.old) engine.old }
     requires token { engine.old.stop ≡ None → TokenWithin (length engine.old.names) token }
     ensures follows { engine.old.stop ≡ None → FollowsTold (hears T.wanting T.heard) (hears_part T.wanting T.part) (F.shelf files.old) (executes (token_at engine.old.names token) (state_of (F.shelf files.old) engine.old)) result (state_of (F.shelf files.new) engine.new) tell.old tell.new }
+    ensures spends { engine.old.stop ≡ None → SpendsBy (executes (token_at engine.old.names token) (state_of (F.shelf files.old) engine.old)) result (F.shelf files.old) (F.shelf files.new) engine.old engine.new }
     ensures stops { engine.old.stop ≡ None → Stops result (outside (F.shelf files.old) (F.faults files.old) (T.faults tell.old) (T.loan tell.old)) (outside (F.shelf files.new) (F.faults files.new) (T.faults tell.new) (T.loan tell.new)) engine.new.stop }
     ensures lower { engine.old.stop ≡ None → OnOk result (Shrinks 0 (F.shelf files.old) engine.old (F.shelf files.new) engine.new) }
     ensures keeps { engine.old.stop ≡ None → OnOk result (Kept engine.old engine.new) }
@@ -90,6 +93,7 @@ pub fn execute<F: Files, T: Teller>(
 }
 
 // Does what a token asks for by its meaning.
+#[inline(always)]
 fn execute_meaning<F: Files, T: Teller>(
     alloc: Global,
     engine: &mut Engine,
@@ -105,6 +109,9 @@ fn execute_meaning<F: Files, T: Teller>(
         (outside (F.shelf files.old) (F.faults files.old) (T.faults tell.old) (T.loan tell.old)) (outside (F.shelf files.new) (F.faults files.new) (T.faults tell.new) (T.loan tell.new)) tell.old tell.new }
     ensures same { IfOk result (λ done. done ≡ Executed.NotMine → (engine.new ≡ engine.old) × (files.new ≡ files.old) × (tell.new ≡ tell.old)) }
 {
+    if let Token::Char(_, _) = token {
+        return Ok(Executed::NotMine);
+    }
     let meaning = match engine.means(token) {
         Ok(meaning) => meaning,
         Err(_) => return Err(engine.no_memory()),

@@ -55,6 +55,13 @@ impl CalmFiles {
         self.named.insert(0, NamedFile { name, bytes })?;
         Ok(())
     }
+
+    /// How many bytes all reads have given so far.
+    pub fn given(&self) -> u64
+        ensures given { result ≡ (calm_shelf self.now).total }
+    {
+        self.given
+    }
 }
 
 impl Files for CalmFiles {

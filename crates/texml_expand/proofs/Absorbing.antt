@@ -46,7 +46,7 @@ set_shrinks k x y a b old new s = record { limit = s.limit; nesting = s.nesting;
 
 module _ {T : Type 0} (hear part : T → Record → T → Type 0) where
   set_does : (b : Bool) (h : Held) (f : Outside) (a : T) → Sound h → h.stop ≡ None → Owns f.shelf h → Does hear part (λ n. change (absorbs b)) (Ok tt) h (record h { absorbing = b }) f f a a
-  set_does b h f a sound running owns = does_silent hear part (λ c. change (absorbs b)) (lawful_absorbs b) (Ok tt) h (record h { absorbing = b }) f a refl running tt (set_kept b h sound) (set_progress b h) (record { ids = refl }) owns
+  set_does b h f a sound running owns = does_silent hear part (λ c. change (absorbs b)) (lawful_absorbs b) (Ok tt) h (record h { absorbing = b }) f a refl running tt (set_kept b h sound) (set_progress b h) (record { ids = refl; readers = refl }) owns
 
   pub expanded_stops : (e : Stop) (old new : Held) (f g : Outside) (a b : T) → Sound old → old.stop ≡ None → Owns f.shelf old → Does hear part (λ n. (level n).gather Group []) (Err e) (record old { absorbing = true }) new f g a b
       → Does hear part (λ n. absorb_expanded (level n)) (Err e) old new f g a b

@@ -11,8 +11,8 @@ use Rattle.texml_input.proofs.Sources.{aside_put, ids_put, room_put, within_put}
 use Rattle.texml_input.proofs.Standing.{rest_tokens, rests_ended}
 use Rattle.texml_expand.specs.State.{State}
 use Rattle.texml_expand.specs.Include.{alone, with_rests, text_ended}
-use Rattle.texml_expand.specs.Held.{Held, state_of, Sound, Kept, SameFiles, Puts}
-use Rattle.texml_expand.proofs.Putting.{with_sources}
+use Rattle.texml_expand.specs.Held.{Held, state_of, Sound, Kept, readers_of, SameFiles, Puts}
+use Rattle.texml_expand.proofs.Putting.{with_sources, readers_put}
 
 kept_with : (h : Held) (s : List Source) → Sound h → SourcesWithin (length h.names) s → Kept h (with_sources h s)
 kept_with h s k w = record { grows = extends_refl h.names; sound = record { numbered = k.numbered; sources = w; ready = k.ready; kept = k.kept; scope = k.scope; budget = k.budget } }
@@ -39,14 +39,14 @@ module _ (h : Held) (list : List TokenCode) where
   puts_apart = record { limit = refl; nesting = refl; begun = refl; room = λ shelf. omega (arith, room_put shelf list (Fence ∷ h.input.sources)) }
 
   pub files_apart : SameFiles h set_apart
-  files_apart = record { ids = ids_put list (Fence ∷ h.input.sources) }
+  files_apart = record { ids = ids_put list (Fence ∷ h.input.sources); readers = readers_put list (Fence ∷ h.input.sources) }
 
 -- a fence, and tokens before it unless memory is refused
 pub files_fenced : {E : Type 0} (r : Result (Unit {0}) E) (h : Held) (list : List TokenCode) (mid new : HeldInput) → mid ≡ record h.input { sources = Fence ∷ h.input.sources }
     → OnOk r (new ≡ record mid { sources = map Plain list ++ mid.sources }) → OnErr r (new ≡ mid) → SameFiles h (record h { input = new })
 files_fenced (Ok v) h list mid new e ok err =
     subst (λ i. SameFiles h (record h { input = i })) (sym (ok ∙ ap (λ (i : HeldInput). record i { sources = map Plain list ++ i.sources }) e)) (files_apart h list)
-files_fenced (Err x) h list mid new e ok err = subst (λ i. SameFiles h (record h { input = i })) (sym (err ∙ e)) (record { ids = refl })
+files_fenced (Err x) h list mid new e ok err = subst (λ i. SameFiles h (record h { input = i })) (sym (err ∙ e)) (record { ids = refl; readers = refl })
 
 -- The first text is ended
 
@@ -94,6 +94,13 @@ room_ended shelf (Marked t ∷ s) = omega (arith, room_ended shelf s)
 room_ended shelf (File f ∷ s) = omega arith
 room_ended shelf (Fence ∷ s) = room_ended shelf s
 
+readers_ended : (s : List Source) → readers_of (end_first s) ≡ readers_of s
+readers_ended [] = refl
+readers_ended (Plain t ∷ s) = readers_ended s
+readers_ended (Marked t ∷ s) = readers_ended s
+readers_ended (File f ∷ s) = refl
+readers_ended (Fence ∷ s) = readers_ended s
+
 module _ (h : Held) where
   abbrev pub with_ended : Held
   with_ended = with_sources h (end_first h.input.sources)
@@ -110,4 +117,4 @@ module _ (h : Held) where
   puts_ended = record { limit = refl; nesting = refl; begun = refl; room = λ shelf. omega (arith, room_ended shelf h.input.sources) }
 
   pub files_ended : SameFiles h with_ended
-  files_ended = record { ids = ids_ended h.input.sources }
+  files_ended = record { ids = ids_ended h.input.sources; readers = readers_ended h.input.sources }

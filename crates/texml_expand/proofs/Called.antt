@@ -1,5 +1,5 @@
 -- What the call of a macro gives, by numbers of names and by their texts.
-use Rattle.std.proofs.Common.{◌≡◌, ◌-◌, ◌==◌, ℕ, zero, suc, Bool, true, List, [], ◌∷◌, ◌++◌, length, map, Option, None, Some, option_map, Ok, Err, refl, sym, ap, ap₂, ◌∙◌, subst, arith, inl, inr}
+use Rattle.std.proofs.Common.{◌≡◌, ◌-◌, ◌==◌, ◌&&◌, ℕ, zero, suc, Bool, true, false, List, [], ◌∷◌, ◌++◌, length, map, Option, None, Some, option_map, Ok, Err, refl, sym, ap, ap₂, ◌∙◌, subst, arith, inl, inr}
 use Rattle.std.specs.List.{All}
 use Rattle.std.specs.Option.{option_to_list, unwrap_or}
 use Rattle.std.proofs.lemmas.Bool.{cases_lt, eqb-true}
@@ -28,8 +28,7 @@ use Rattle.texml_expand.specs.Contract.{Outside}
 use Rattle.texml_expand.specs.Held.{Held, state_of}
 use Rattle.texml_expand.specs.Doing.{Gets}
 use Rattle.texml_expand.proofs.Least.{by_least_at}
-use Rattle.texml_expand.proofs.Running.{runs_as, gets_runs}
-use Rattle.texml_expand.proofs.Getting.{gets_by, gets_then, gets_stop, gets_now, gets_out}
+use Rattle.texml_expand.proofs.Getting.{gets_then, gets_stop, gets_now, gets_out}
 
 -- a body with arguments in their places
 module _ (texts : Table) (args : List (List TokenCode)) where
@@ -78,7 +77,17 @@ plain_filled count (t ∷ ts) w = ap₂ (λ xs ys. xs ++ ys) (plain_token t (All
 
 -- the call of a macro without parameters
 no_arguments : (long : Bool) (s : State) → read_by (reading (shape_from {T = Token} long [])) s ≡ Done [] s nothing
-no_arguments long s = by_least_at (λ list. decided_by (reading (shape_from {T = Token} long []) list)) s s [] (Yields []) refl refl refl (λ j lt. absurd (omega (arith, lt)))
+no_arguments long s = by_least_at (λ list. decided_by (reading (shape_from {T = Token} long []) list)) s s [] nothing (Yields []) refl refl refl (λ j lt. absurd (omega (arith, lt)))
+
+both_first : (a b : Bool) → (a && b) ≡ true → a ≡ true
+both_first true b e = refl
+both_first false b e = e
+
+-- a shape that asks for nothing
+pub nothing_read : (texts : Table) (p : List TokenCode) (ds : List (List TokenCode)) (long : Bool) (s : State) → (length p == 0 && length ds == 0) ≡ true → read_by (reading (shape_at texts (record { prefix = p; delimiters = ds; long = long }))) s ≡ Done [] s nothing
+nothing_read texts [] [] long s e = no_arguments long s
+nothing_read texts [] (d ∷ ds) long s e = let no = eqb-true (length (d ∷ ds)) 0 e in absurd (omega (arith, no))
+nothing_read texts (t ∷ p) ds long s e = let no = eqb-true (length (t ∷ p)) 0 (both_first (length (t ∷ p) == 0) (length ds == 0) e) in absurd (omega (arith, no))
 
 pub plain_called : (texts : Table) (count : ℕ) (m : MacroCode) (default : Option (List TokenCode)) (pieces : List (PieceOf TokenCode)) → default ≡ m.params.default → pieces ≡ m.params.pieces → pieces ≡ [] → DefaultFits default pieces
     → BodyWithin count (slots_in pieces) m.body → (s : State) → called (macro_at texts (record { long = m.long; params = record { default = default; pieces = pieces }; body = m.body })) s ≡ Done (tokens_at texts m.body) s nothing
@@ -124,12 +133,10 @@ empty_list (x ∷ xs) e = let no = eqb-true (length (x ∷ xs)) 0 e in absurd (o
 pub default_done : (long : Bool) (old new : Held) → Extends old.names new.names → (default : Option (List TokenCode)) (d copy : List TokenCode) (f g : Outside) → default ≡ Some d → OptionWithin (TokensWithin (length old.names)) default
     → Gets (optional long) (Ok None) old new f g → copy ≡ d → Gets (first_argument long (option_map (tokens_at old.names) default)) (Ok (tokens_at new.names copy ∷ [])) old new f g
 default_done long old new grows default d copy f g e w h same =
-    gets_by (first_argument long (option_map (tokens_at old.names) default)) (Ok (tokens_at new.names copy ∷ [])) old new f g
-    (λ told.
-    ap (λ o. first_argument long (option_map (tokens_at old.names) o) (state_of f.shelf old)) e
-    ∙ ap (λ a. chain a (λ found. give (unwrap_or found (tokens_at old.names d) ∷ []))) (h.reads told)
-    ∙ ap (λ l. Done (l ∷ []) (state_of g.shelf new) nothing) (sym (tokens_kept old.names new.names grows d (subst (OptionWithin (TokensWithin (length old.names))) e w)) ∙ ap (tokens_at new.names) (sym same)))
-    (runs_as None (tokens_at new.names copy ∷ []) old new f g (gets_runs (optional long) (Ok None) old new f g h))
+    let list = sym (tokens_kept old.names new.names grows d (subst (OptionWithin (TokensWithin (length old.names))) e w)) ∙ ap (tokens_at new.names) (sym same) in
+    subst (λ o. Gets (first_argument long (option_map (tokens_at old.names) o)) (Ok (tokens_at new.names copy ∷ [])) old new f g) (sym e)
+    (gets_then (optional long) (λ found. give (unwrap_or found (tokens_at old.names d) ∷ [])) None (Ok (tokens_at new.names copy ∷ [])) old new new f g g h
+    (subst (λ (l : List Token). Gets (give (tokens_at old.names d ∷ [])) (Ok (l ∷ [])) new new g g) list (gets_now (tokens_at old.names d ∷ []) new g h.keeps.sound h.stops.kept h.holds.owns)))
 
 -- all arguments
 module _ (old mid : Held) (grows : Extends old.names mid.names) (m : MacroCode) (w : MacroWithin (length old.names) m) (shape : Shape TokenCode) (is : shape ≡ shape_of m.long m.params) (first : Option (List TokenCode)) (f g : Outside)

@@ -16,6 +16,7 @@ use Rattle.texml_expand.specs.Held.{Held, state_of, Kept, Progress, IsAtLimit, O
 use Rattle.texml_expand.specs.Doing.{Does}
 use Rattle.texml_expand.proofs.Meeting.{stops_as}
 use Rattle.texml_expand.proofs.Running.{holding_same}
+use Rattle.texml_expand.proofs.Spending.{spends_same}
 use Rattle.texml_expand.proofs.Lawful.{lawful_copy}
 use Rattle.texml_expand.proofs.Looking.{lawful_next_internal}
 use Rattle.texml_expand.proofs.Total.{total, copy_is}
@@ -62,6 +63,7 @@ module _ {T : Type 0} (hear part : T → Record → T → Type 0) where
       → Did hear part (copied t q (state_of shelf old)) (ok_at at r) old new (outside shelf reads tells loan) (outside shelf reads tells' loan') a b
   copied_did at t u q r old new shelf reads tells tells' loan loan' a b e meets stops keeps limit progress files owns = record {
     meets = λ told. subst (λ x. Meets hear part (copied x q (state_of shelf old)) (ok_at at r) (state_of shelf new) a b) e (meets shelf);
+    spends = spends_same (copied t q (state_of shelf old)) (ok_at at r) shelf old new files;
     stops = stops_at at r _ _ new (stops shelf reads);
     limit = limit_at at r new limit;
     keeps = on_at (Kept old new) at r keeps;

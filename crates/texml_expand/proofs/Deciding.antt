@@ -1,5 +1,5 @@
 -- Readings that decide.
-use Rattle.std.proofs.Common.{◌≡◌, Bool, true, false, ◌&&◌, refl}
+use Rattle.std.proofs.Common.{◌≡◌, ℕ, Bool, true, false, ◌&&◌, refl}
 use Rattle.texml_input.specs.Next.{Taken, Given, Got, AtEnd, Invalid, NotUtf8, next}
 use Rattle.texml_expand.specs.State.{State, Gains, Answer, Done, Ended, Unfinished, Reading, nothing, after, chain, IsDecided}
 use Rattle.texml_input.specs.Codes.{cats_of, end_of}
@@ -33,12 +33,12 @@ any (Done v t gains) = tt
 any (Ended e gains) = tt
 any (Unfinished gains) = tt
 
-token_decided : (b : Bool) (t : Taken) (s : State) → IsDecided (take_token b t s)
-token_decided true t s = tt
-token_decided false t s = tt
+token_decided : (b : Bool) (t : Taken) (bytes : ℕ) (s : State) → IsDecided (take_token b t bytes s)
+token_decided true t bytes s = tt
+token_decided false t bytes s = tt
 
 given_decided : (g : Given) (s : State) → IsDecided (take_given g s)
-given_decided (Got t rest place bytes) s = token_decided (s.absorbing && t.crossed) t (record s { rest = rest; place = place })
+given_decided (Got t rest place bytes) s = token_decided (s.absorbing && t.crossed) t bytes (record s { rest = rest; place = place })
 given_decided (AtEnd place bytes) s = tt
 given_decided (Invalid c place bytes) s = tt
 given_decided (NotUtf8 place bytes) s = tt

@@ -12,7 +12,7 @@ use Rattle.texml_expand.specs.State.{State, Done, nothing, give}
 use Rattle.texml_expand.specs.Include.{taken_up, argument_alone, all_left, bytes_of, characters, name_argument, plain_name, peeked, begins_group, name_by, file_name}
 use Rattle.texml_expand.specs.Expand.{level}
 use Rattle.texml_expand.specs.Contract.{Outside}
-use Rattle.texml_expand.specs.Held.{Held, state_of, Sound, Kept, Owns, Shrinks}
+use Rattle.texml_expand.specs.Held.{Held, readers_of, state_of, Sound, Kept, Owns, Shrinks}
 use Rattle.texml_expand.specs.Doing.{Does}
 use Rattle.texml_expand.proofs.Lawful.{lawful_give, lawful_gather}
 use Rattle.texml_expand.proofs.Including.{lawful_peeked, name_behind, lawful_name_behind, lawful_argument_alone, up_with, lawful_up_with, lawful_all_left, lawful_characters, characters_left, lawful_characters_left}
@@ -80,6 +80,13 @@ unfenced_ids (Plain t ∷ s) at = absurd at
 unfenced_ids (Marked t ∷ s) at = absurd at
 unfenced_ids (File f ∷ s) at = absurd at
 
+pub unfenced_readers : (s : List Source) → IsAtFence s → readers_of (unfenced s) ≡ readers_of s
+unfenced_readers [] at = refl
+unfenced_readers (Fence ∷ s) at = refl
+unfenced_readers (Plain t ∷ s) at = absurd at
+unfenced_readers (Marked t ∷ s) at = absurd at
+unfenced_readers (File f ∷ s) at = absurd at
+
 pub unfenced_room : (shelf : Shelf) (s : List Source) → IsAtFence s → room_of shelf (unfenced s) ≡ room_of shelf s
 unfenced_room shelf [] at = refl
 unfenced_room shelf (Fence ∷ s) at = refl
@@ -113,4 +120,4 @@ module _ {T : Type 0} (hear part : T → Record → T → Type 0) where
   pub up_does : (list : List Token) (h : Held) (f : Outside) (a : T) → IsAtFence h.input.sources → Sound h → h.stop ≡ None → Owns f.shelf h → Does hear part (λ n. up_with list) (Ok list) h (with_sources (unfenced h.input.sources) h) f f a a
   up_does list h f a at sound running owns =
       does_silent hear part (λ c. up_with list) (lawful_up_with list) (Ok list) h (with_sources (unfenced h.input.sources) h) f a (ap (λ s. Done list s nothing) (sym (unfenced_state f.shelf h h.input.sources at))) running tt
-      (unfenced_kept h at sound) (record { names = extends_refl h.names; begun = omega arith; limit = refl; writes = omega arith }) (record { ids = unfenced_ids h.input.sources at }) owns
+      (unfenced_kept h at sound) (record { names = extends_refl h.names; begun = omega arith; limit = refl; writes = omega arith }) (record { ids = unfenced_ids h.input.sources at; readers = unfenced_readers h.input.sources at }) owns

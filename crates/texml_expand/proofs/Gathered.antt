@@ -27,6 +27,7 @@ use Rattle.texml_expand.proofs.Running.{limit_as, shrinks_none, shrinks_then, sh
 use Rattle.texml_expand.proofs.Lawful.{Lawful, lawful_give, lawful_then, lawful_expand, lawful_gather, lawful_copy}
 use Rattle.texml_expand.proofs.Total.{total, gather_is}
 use Rattle.texml_expand.proofs.Groups.{pushed}
+use Rattle.texml_expand.proofs.Spending.{plus_nothing}
 use Rattle.texml_expand.proofs.Doing.{Did, does_of, did_of, did_as, did_then, did_stop, did_now, did_silent, did_fault, did_out, does_then, does_stop, does_now}
 
 pub lawful_at_once : (t : Token) (e : Expandable) (b : Bool) → Lawful (λ c. at_once c t e b)
@@ -36,7 +37,7 @@ lawful_at_once t e false = lawful_then (λ c. c.expand t e) (λ _ c. give []) (l
 -- what an expansion gives at once is gathered
 unit_then : (c : Calls) (k : Gathering) (seen : List Token) (x : Answer (Unit {0})) → chain x (λ _. c.gather k seen) ≡ chain (chain x (λ _. give [])) (λ list. c.gather k (seen ++ list))
 unit_then c k seen (Done v s gains) =
-    ap (λ l. after gains (c.gather k l s)) (sym (append-nil seen)) ∙ ap (λ rows. after (record { records = rows }) (c.gather k (seen ++ []) s)) (sym (append-nil gains.records))
+    ap (λ l. after gains (c.gather k l s)) (sym (append-nil seen)) ∙ ap (λ g. after g (c.gather k (seen ++ []) s)) (sym (plus_nothing gains))
 unit_then c k seen (Ended e gains) = refl
 unit_then c k seen (Unfinished gains) = refl
 

@@ -69,14 +69,14 @@ pub lower_less : (k : ℕ) (s t : State) → Lower k s t → Lower 0 s t
 lower_less k s t l = lower_then k 0 0 s t t l (lower_none t) (omega arith)
 
 -- a token that is taken, unless it may not stand there
-token_leads : (b : Bool) (x : Taken) (s t : State) → Lower 1 s t → Leads (λ o u. Lower (count o) s u) (take_token b x t)
-token_leads true x s t l = tt
-token_leads false x s t l = l
+token_leads : (b : Bool) (x : Taken) (bytes : ℕ) (s t : State) → Lower 1 s t → Leads (λ o u. Lower (count o) s u) (take_token b x bytes t)
+token_leads true x bytes s t l = tt
+token_leads false x bytes s t l = l
 
 -- the token at the front is gone
 given_leads : (s : State) (g : Given) → next (cats_of s.world) (end_of s.world) s.rest s.place ≡ g → Leads (λ o t. Lower (count o) s t) (take_given g s)
 given_leads s (Got t rest place bytes) e =
-    token_leads (s.absorbing && t.crossed) t s (record s { rest = rest; place = place }) (record {
+    token_leads (s.absorbing && t.crossed) t bytes s (record s { rest = rest; place = place }) (record {
       limit = refl;
       nesting = refl;
       begun = omega arith;

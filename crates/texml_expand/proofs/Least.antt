@@ -5,7 +5,7 @@ use Rattle.texml_expand.specs.declared.feeding.Verdict.{Verdict}
 use Rattle.texml_expand.specs.declared.feeding.Verdict.TheVariants.{TooShort, Yields, Refuses}
 use Rattle.texml_input.specs.Next.{Taken, Given, Got, AtEnd, Invalid, NotUtf8, next}
 use Rattle.texml_input.specs.Codes.{cats_of, end_of}
-use Rattle.texml_expand.specs.State.{State, End, room, nothing, Answer, Done, Ended, Unfinished, Reading, after, chain, IsDecided, give, ◌>>=◌}
+use Rattle.texml_expand.specs.State.{State, Gains, End, room, Answer, Done, Ended, Unfinished, Reading, after, chain, IsDecided, give, ◌>>=◌}
 use Rattle.texml_expand.specs.Take.{take_token, take_given, take}
 use Rattle.texml_expand.specs.Least.{inside_if, inside, inner_token, next_tokens, least, decides, decided, is_enough, by_tokens, by_least}
 use Rattle.texml_expand.specs.Contract.{Lower}
@@ -51,12 +51,12 @@ takes_then j k m s t u g h le = record { begun = h.begun ∙ g.begun; lower = lo
 pub takes_room : (k : ℕ) (s t : State) → Takes k s t → k ≤ room s
 takes_room k s t g = let l = g.lower.size g.begun in omega arith
 
-token_takes : (b : Bool) (x : Taken) (s t : State) → t.begun ≡ s.begun → Leads (λ o u. Lower (count o) s u) (take_token b x t) → Leads (λ o u. Takes (count o) s u) (take_token b x t)
-token_takes true x s t e l = tt
-token_takes false x s t e l = record { begun = e; lower = l }
+token_takes : (b : Bool) (x : Taken) (bytes : ℕ) (s t : State) → t.begun ≡ s.begun → Leads (λ o u. Lower (count o) s u) (take_token b x bytes t) → Leads (λ o u. Takes (count o) s u) (take_token b x bytes t)
+token_takes true x bytes s t e l = tt
+token_takes false x bytes s t e l = record { begun = e; lower = l }
 
 given_takes : (s : State) (g : Given) → Leads (λ o t. Lower (count o) s t) (take_given g s) → Leads (λ o t. Takes (count o) s t) (take_given g s)
-given_takes s (Got t rest place bytes) l = token_takes (s.absorbing && t.crossed) t s (record s { rest = rest; place = place }) refl l
+given_takes s (Got t rest place bytes) l = token_takes (s.absorbing && t.crossed) t bytes s (record s { rest = rest; place = place }) refl l
 given_takes s (AtEnd place bytes) l = record { begun = refl; lower = l }
 given_takes s (Invalid c place bytes) l = tt
 given_takes s (NotUtf8 place bytes) l = tt
@@ -160,18 +160,18 @@ module _ {A : Type 0} (decide : List Token → Verdict A) where
   by_least_leads s = by_tokens_leads (least (room s + 1) (test s)) s
 
   -- what a list decides that is the first to decide
-  pub by_least_at : (s t : State) (list : List Token) (v : Verdict A) → next_tokens (length list) s ≡ Done list t nothing → decide list ≡ v → decides v ≡ true
-      → ((j : ℕ) → j < length list → test s j ≡ false) → by_least decide s ≡ after nothing (decided v t)
-  by_least_at s t list v e is d before =
+  pub by_least_at : (s t : State) (list : List Token) (gains : Gains) (v : Verdict A) → next_tokens (length list) s ≡ Done list t gains → decide list ≡ v → decides v ≡ true
+      → ((j : ℕ) → j < length list → test s j ≡ false) → by_least decide s ≡ after gains (decided v t)
+  by_least_at s t list gains v e is d before =
       let took = takes_room (length list) s t (at e (next_took (length list) s)).takes in
       ap (λ k. by_tokens decide k s) (least_is (room s + 1) (length list) (test s) (omega arith) before (ap (is_enough decide) e ∙ ap decides is ∙ d))
-      ∙ ap (λ a. chain a (λ l. decided (decide l))) e ∙ ap (λ w. after nothing (decided w t)) is
+      ∙ ap (λ a. chain a (λ l. decided (decide l))) e ∙ ap (λ w. after gains (decided w t)) is
     where
-      at : {a : Answer (List Token)} → a ≡ Done list t nothing → Leads (λ l u. Took (length list) s l u) a → Took (length list) s list t
+      at : {a : Answer (List Token)} → a ≡ Done list t gains → Leads (λ l u. Took (length list) s l u) a → Took (length list) s list t
       at f h = subst (Leads (λ l u. Took (length list) s l u)) f h
 
   -- an end behind a list, where neither it nor a first part of it decides
-  pub by_least_ends : (s : State) (k : ℕ) (end : End) → k ≤ room s + 1 → next_tokens k s ≡ Ended end nothing → ((j : ℕ) → j < k → test s j ≡ false) → by_least decide s ≡ Ended end nothing
-  by_least_ends s k end le e before =
+  pub by_least_ends : (s : State) (k : ℕ) (end : End) (gains : Gains) → k ≤ room s + 1 → next_tokens k s ≡ Ended end gains → ((j : ℕ) → j < k → test s j ≡ false) → by_least decide s ≡ Ended end gains
+  by_least_ends s k end gains le e before =
       ap (λ n. by_tokens decide n s) (least_is (room s + 1) k (test s) le before (ap (is_enough decide) e))
       ∙ ap (λ a. chain a (λ l. decided (decide l))) e

@@ -21,6 +21,7 @@ pub mod Levels
 pub mod Settle
 pub mod Total
 pub mod Public
+pub mod Spending
 pub mod Meeting
 mod Rows
 pub mod Scanning

@@ -12,7 +12,7 @@ use Rattle.texml_expand.specs.declared.stop.Stop.{Stop}
 use Rattle.texml_expand.specs.declared.stop.Stop.TheVariants as stop
 use Rattle.texml_expand.specs.declared.feeding.Verdict.{Verdict}
 use Rattle.texml_expand.specs.declared.feeding.Verdict.TheVariants.{TooShort, Yields, Refuses}
-use Rattle.texml_expand.specs.State.{State, Gains, End, Tex, Limit, room, nothing, ◌⊕◌, Answer, Done, Ended, Unfinished, Reading, after, chain, give}
+use Rattle.texml_expand.specs.State.{State, Gains, End, Tex, Limit, room, nothing, loads, ◌⊕◌, Answer, Done, Ended, Unfinished, Reading, after, chain, added, give}
 use Rattle.texml_expand.specs.Least.{next_tokens, least, decides, decided, is_enough, by_tokens, by_least}
 use Rattle.texml_expand.specs.Arguments.{decided_by, read_by}
 use Rattle.texml_expand.specs.Contract.{Quiet, Outside}
@@ -21,6 +21,8 @@ use Rattle.texml_expand.specs.Doing.{Gets}
 use Rattle.texml_expand.specs.Matched.{MatchedBy}
 use Rattle.texml_expand.proofs.Lengths.{argument_fits, yields_fits}
 use Rattle.texml_expand.proofs.Running.{shrinks_less, runs_as, runs_stop, gets_runs}
+use Rattle.texml_expand.specs.Spending.{Spent}
+use Rattle.texml_expand.proofs.Spending.{plus_nothing, spent_err, spent_ok}
 use Rattle.texml_expand.proofs.Getting.{gets_by}
 
 abbrev pub verdict_map : {A B : Type 0} → (A → B) → Verdict A → Verdict B
@@ -45,7 +47,7 @@ module _ {A B : Type 0} (f : A → B) (d : List Token → Verdict A) (e : List T
 
   decided_map : (v : Verdict A) (t : State) (gains : Gains) → after gains (decided (verdict_map f v) t) ≡ chain (after gains (decided v t)) (λ a. give (f a))
   decided_map TooShort t gains = refl
-  decided_map (Yields v) t gains = ap (λ r. Done (f v) t (record { records = r })) (sym (append-nil (gains.records ++ [])))
+  decided_map (Yields v) t gains = ap (λ g. Done (f v) t g) (sym (plus_nothing (gains ⊕ nothing)))
   decided_map (Refuses code) t gains = refl
 
   tokens_map : (a : Answer (List Token)) → chain a (λ list. decided (e list)) ≡ chain (chain a (λ list. decided (d list))) (λ a. give (f a))
@@ -74,32 +76,34 @@ reading_one long delimiter s =
     (λ list. one_read long (argument long delimiter list)) s
 
 -- and back
-no_gains : (gains : Gains) → gains ⊕ nothing ≡ nothing → gains ≡ nothing
-no_gains gains e = ap (λ r. record { records = r }) (sym (append-nil gains.records) ∙ ap (λ (g : Gains). g.records) e)
-
-pub one_done : (x : Answer (List Token)) (v : List (List Token)) (t : State) → chain x (λ a. give (one a)) ≡ Done v t nothing → (a : List Token) × (v ≡ one a) × (x ≡ Done a t nothing)
-one_done (Done a u gains) v t e =
+pub one_done : (x : Answer (List Token)) (v : List (List Token)) (t : State) (gains : Gains) → chain x (λ a. give (one a)) ≡ Done v t gains → (a : List Token) × (v ≡ one a) × (x ≡ Done a t gains)
+one_done (Done a u more) v t gains e =
     let value : one a ≡ v = cc in
     let state : u ≡ t = cc in
-    let none : gains ⊕ nothing ≡ nothing = cc in
-    (a, sym value, ap₂ (λ s g. Done a s g) state (no_gains gains none))
-one_done (Ended end gains) v t e = cc
-one_done (Unfinished gains) v t e = cc
+    let same : more ⊕ nothing ≡ gains = cc in
+    (a, sym value, ap₂ (λ s g. Done a s g) state (sym (plus_nothing more) ∙ same))
+one_done (Ended end more) v t gains e = cc
+one_done (Unfinished more) v t gains e = cc
 
-one_ended : (x : Answer (List Token)) (end : End) → chain x (λ a. give (one a)) ≡ Ended end nothing → x ≡ Ended end nothing
-one_ended (Done a u gains) end e = cc
-one_ended (Ended end' gains) end e =
+one_ended : (x : Answer (List Token)) (end : End) (gains : Gains) → chain x (λ a. give (one a)) ≡ Ended end gains → x ≡ Ended end gains
+one_ended (Done a u more) end gains e = cc
+one_ended (Ended end' more) end gains e =
     let same : end' ≡ end = cc in
-    let none : gains ≡ nothing = cc in
+    let none : more ≡ gains = cc in
     ap₂ (λ x g. Ended x g) same none
-one_ended (Unfinished gains) end e = cc
+one_ended (Unfinished more) end gains e = cc
 
 pub one_stops : (x : Answer (List Token)) (e : Stop) (s t : State) → Quiet (chain x (λ a. give (one a))) (Err e) s → Quiet x (Err e) t
-one_stops x (stop.Tex n) s t h = one_ended x (Tex n) h
-one_stops x (stop.Limit n) s t h = one_ended x (Limit n) h
+one_stops x (stop.Tex n) s t h = (h.0, one_ended x (Tex n) (loads h.0) h.1)
+one_stops x (stop.Limit n) s t h = (h.0, one_ended x (Limit n) (loads h.0) h.1)
 one_stops x stop.ReadFailed s t h = tt
 one_stops x stop.TellFailed s t h = absurd h
 one_stops x stop.NoMemory s t h = tt
+
+added_one : (x : Answer (List Token)) → added (chain x (λ a. give (one a))) ≡ added x
+added_one (Done a u gains) = plus_nothing gains
+added_one (Ended end gains) = refl
+added_one (Unfinished gains) = refl
 
 one_yields : (v : Verdict (List Token)) (l : List (List Token)) → verdict_map one v ≡ Yields l → (a : List Token) × (v ≡ Yields a) × (l ≡ one a)
 one_yields TooShort l e = cc
@@ -121,6 +125,8 @@ module _ (old : Held) (shape : Shape TokenCode) (long : Bool) (delimiter : List 
   argument_stops e new f g d =
       gets_by alone (Err e) old new f g
       (λ told. one_stops (alone (state_of f.shelf old)) e (state_of g.shelf new) (state_of g.shelf new) (subst (λ x. Quiet x (Err e) (state_of g.shelf new)) (shape_one (state_of f.shelf old)) (d.reads told)))
+      (λ told little. subst (Spent (Err e) f.shelf g.shelf old.input.sources new.input.sources) (ap (λ (x : Answer (List (List Token))). added x) (shape_one (state_of f.shelf old)) ∙ added_one (alone (state_of f.shelf old)))
+      (spent_err (List (List Token)) (List Token) e f.shelf g.shelf old.input.sources new.input.sources (added (whole (state_of f.shelf old))) (d.spends told little)))
       (runs_stop e old new f g (gets_runs whole (Err e) old new f g d))
 
   first_is : (new : Table) (args : List (List TokenCode)) (first : List TokenCode) (a : List Token) → first ≡ slice_index_or args 0 [] → map (tokens_at new) args ≡ one a → a ≡ tokens_at new first
@@ -133,8 +139,11 @@ module _ (old : Held) (shape : Shape TokenCode) (long : Bool) (delimiter : List 
   argument_done new args first f g d e =
       gets_by alone (Ok (tokens_at new.names first)) old new f g
       (λ told.
-      let o = one_done (alone (state_of f.shelf old)) (map (tokens_at new.names) args) (state_of g.shelf new) (sym (shape_one (state_of f.shelf old)) ∙ d.reads told) in
-      o.2 ∙ ap (λ a. Done a (state_of g.shelf new) nothing) (first_is new.names args first o.0 e o.1))
+      let q = d.reads told in
+      let o = one_done (alone (state_of f.shelf old)) (map (tokens_at new.names) args) (state_of g.shelf new) (loads q.0) (sym (shape_one (state_of f.shelf old)) ∙ q.1) in
+      (q.0, o.2 ∙ ap (λ a. Done a (state_of g.shelf new) (loads q.0)) (first_is new.names args first o.0 e o.1)))
+      (λ told little. subst (Spent (Ok (tokens_at new.names first)) f.shelf g.shelf old.input.sources new.input.sources) (ap (λ (x : Answer (List (List Token))). added x) (shape_one (state_of f.shelf old)) ∙ added_one (alone (state_of f.shelf old)))
+      (spent_ok (map (tokens_at new.names) args) (tokens_at new.names first) f.shelf g.shelf old.input.sources new.input.sources (added (whole (state_of f.shelf old))) (d.spends told little)))
       (runs_as (map (tokens_at new.names) args) (tokens_at new.names first) old new f g (gets_runs whole (Ok (map (tokens_at new.names) args)) old new f g d))
 
   -- the argument is no longer than what was read for it

@@ -7,16 +7,11 @@ use Rattle.texml_watch.specs.Telling.{AllHeard}
 use Rattle.texml_watch.proofs.Hearing.{AllHeard-append}
 use Rattle.texml_expand.specs.declared.stop.Stop.{Stop}
 use Rattle.texml_expand.specs.declared.stop.Stop.TheVariants as stop
-use Rattle.texml_expand.specs.State.{State, Gains, nothing, ◌⊕◌, Answer, Done, Ended, Unfinished, Reading, after, chain, added, tell}
+use Rattle.texml_expand.specs.State.{State, Gains, nothing, loads, ◌⊕◌, Answer, Done, Ended, Unfinished, Reading, after, chain, added, tell}
 use Rattle.texml_expand.specs.Contract.{Silent, Quiet, DecidesOn, Stops, ReadsBecause, TellsBecause, Outside, outside, files_at, stop_after}
 use Rattle.texml_expand.specs.Held.{ok_at}
+use Rattle.texml_expand.proofs.Spending.{added_after}
 use Rattle.texml_expand.specs.Hearing.{HearsIf, HearsPartIf, hears, hears_part, HeardLast, MeetsFirst, MeetsCut, MeetsPart, Meets, Follows}
-
--- what is added
-added_after : {A : Type 0} (gains : Gains) (a : Answer A) → added (after gains a) ≡ gains ⊕ added a
-added_after gains (Done v s more) = refl
-added_after gains (Ended e more) = refl
-added_after gains (Unfinished more) = refl
 
 -- what a first part adds, the whole adds first
 added_chain : {A B : Type 0} (a : Answer A) (f : A → Reading B) → (more : List Record) × ((added (chain a f)).records ≡ (added a).records ++ more)
@@ -65,7 +60,7 @@ module _ {T : Type 0} (hear part : T → Record → T → Type 0) where
   }
 
   -- the records of a first part were heard before
-  meets_after : {A : Type 0} (gains : Gains) (x : Answer A) (r : Result A Stop) (s : State) (a b c : T) → AllHeard hear a gains.records b → Meets hear part x r s b c → Meets hear part (after gains x) r s a c
+  pub meets_after : {A : Type 0} (gains : Gains) (x : Answer A) (r : Result A Stop) (s : State) (a b c : T) → AllHeard hear a gains.records b → Meets hear part x r s b c → Meets hear part (after gains x) r s a c
   meets_after gains x (Ok v) s a b c h k = record { gains = gains ⊕ k.gains; is = ap (after gains) k.is; heard = AllHeard-append hear a b c gains.records k.gains.records h k.heard }
   meets_after gains x (Err (stop.Tex n)) s a b c h k = record { gains = gains ⊕ k.gains; is = ap (after gains) k.is; heard = AllHeard-append hear a b c gains.records k.gains.records h k.heard }
   meets_after gains x (Err (stop.Limit n)) s a b c h k = record { gains = gains ⊕ k.gains; is = ap (after gains) k.is; heard = AllHeard-append hear a b c gains.records k.gains.records h k.heard }
@@ -118,16 +113,16 @@ module _ {T : Type 0} (hear part : T → Record → T → Type 0) where
   first_untold x a = record { rows = []; more = (added x).records; is = refl; heard = refl }
 
   pub meets_quiet : {A : Type 0} (x : Answer A) (r : Result A Stop) (s : State) (a : T) → Quiet x r s → Meets hear part x r s a a
-  meets_quiet x (Ok v) s a h = record { gains = nothing; is = h; heard = refl }
-  meets_quiet x (Err (stop.Tex n)) s a h = record { gains = nothing; is = h; heard = refl }
-  meets_quiet x (Err (stop.Limit n)) s a h = record { gains = nothing; is = h; heard = refl }
+  meets_quiet x (Ok v) s a h = record { gains = loads h.0; is = h.1; heard = refl }
+  meets_quiet x (Err (stop.Tex n)) s a h = record { gains = loads h.0; is = h.1; heard = refl }
+  meets_quiet x (Err (stop.Limit n)) s a h = record { gains = loads h.0; is = h.1; heard = refl }
   meets_quiet x (Err stop.ReadFailed) s a h = first_untold x a
   meets_quiet x (Err stop.TellFailed) s a h = absurd h
   meets_quiet x (Err stop.NoMemory) s a h = part_untold x a
 
   -- one record is told
   pub meets_told : (row : Record) (s : State) (a b : T) → hear a row b → Meets hear part (tell row s) (Ok tt) s a b
-  meets_told row s a b h = record { gains = record { records = row ∷ [] }; is = refl; heard = (b, h, refl) }
+  meets_told row s a b h = record { gains = record { records = row ∷ []; loaded = []; opened = [] }; is = refl; heard = (b, h, refl) }
 
   pub cut_told : (row : Record) (s : State) (a b : T) → part a row b → MeetsCut hear part (tell row s) a b
   cut_told row s a b h = record { rows = []; last = row; more = []; is = refl; heard = (a, refl, h) }

@@ -20,7 +20,7 @@ use Rattle.texml_input.proofs.Standing.{held_opened, rest_opened, aside_opened}
 use Rattle.texml_expand.specs.declared.engine.including.TheConstants.{MOST_FILES}
 use Rattle.texml_expand.specs.declared.stop.Stop.{Stop}
 use Rattle.texml_expand.specs.declared.stop.Stop.TheVariants as stop
-use Rattle.texml_expand.specs.State.{State, Tex, nothing, Ended, Reading, ◌>>=◌, tell, fault_at}
+use Rattle.texml_expand.specs.State.{State, Tex, nothing, opens, Ended, Reading, after, added, ◌>>=◌, tell, fault_at}
 use Rattle.texml_expand.specs.Begin.{finish, finished, record_of}
 use Rattle.texml_expand.specs.Include.{texts, open_texts, whole_text, found, opening}
 use Rattle.texml_expand.specs.Contract.{Outside, outside, Stops, IsFaultAt}
@@ -28,7 +28,8 @@ use Rattle.texml_expand.specs.Hearing.{Meets}
 use Rattle.texml_expand.specs.Held.{Held, place_of, state_of, Sound, Kept, Progress, IsAtLimit, Owns, Holding, SameFiles, Passes}
 use Rattle.texml_expand.specs.Doing.{Tells}
 use Rattle.texml_expand.proofs.Doing.{Did, did_by, did_fault, did_out}
-use Rattle.texml_expand.proofs.Meeting.{meets_silent, meets_quiet, part_untold}
+use Rattle.texml_expand.proofs.Meeting.{meets_silent, meets_quiet, meets_after, part_untold}
+use Rattle.texml_expand.proofs.Spending.{spent_still, spent_opened, spends_same}
 use Rattle.texml_expand.proofs.Progress.{progress_then, progress_stopped}
 use Rattle.texml_expand.proofs.Running.{holding_then, holding_same, files_stopped, runs_fault}
 use Rattle.texml_expand.proofs.Taking.{silent_fault}
@@ -56,7 +57,7 @@ module _ (name : List ℕ) (t : Token) where
   opening_missing s few none = ap (λ b. answer b (first_there s.contents (names_tried name)) s) few ∙ ap (λ o. answer false o s) none
 
   pub opening_found : (s : State) (there : List ℕ) → nat_le MOST_FILES (open_texts s) ≡ false → first_there s.contents (names_tried name) ≡ Some there
-      → opening t name s ≡ tell (record_of t [] there) (finished (Text (whole_text s.contents there) ∷ []) s)
+      → opening t name s ≡ after (opens there) (tell (record_of t [] there) (finished (Text (whole_text s.contents there) ∷ []) s))
   opening_found s there few is = ap (λ b. answer b (first_there s.contents (names_tried name)) s) few ∙ ap (λ o. answer false o s) is
 
 -- so many are open, or fewer
@@ -127,7 +128,7 @@ module _ {T : Type 0} (hear part : T → Record → T → Type 0) (name : List �
   Opening r old new f g a b = Tells hear part (opening t name) r old new f g a b
 
   tells_of : (r : Result (Unit {0}) Stop) (old new : Held) (f g : Outside) (a b : T) → Did hear part (opening t name (state_of f.shelf old)) r old new f g a b → Opening r old new f g a b
-  tells_of r old new f g a b d = record { meets = d.meets; stops = d.stops; limit = d.limit; keeps = d.keeps; progress = d.progress; holds = d.holds }
+  tells_of r old new f g a b d = record { meets = d.meets; spends = d.spends; stops = d.stops; limit = d.limit; keeps = d.keeps; progress = d.progress; holds = d.holds }
 
   -- too many are open
   pub tells_full : (e : Stop) (h new : Held) (f : Outside) (a : T) → nat_le MOST_FILES (open_texts (state_of f.shelf h)) ≡ true → IsFaultAt DEPTH [] (place_of h) e → new ≡ record h { stop = Some e } → Owns f.shelf h → Opening (Err e) h new f f a a
@@ -155,6 +156,7 @@ module _ {T : Type 0} (hear part : T → Record → T → Type 0) (name : List �
         (λ told.
         meets_silent hear part (opening t name (state_of before h)) (Err e) (state_of before new) a
         (silent_fault (opening t name (state_of before h)) MISSING_FILE name (place_of h) e (state_of before new) (opening_missing name t (state_of before h) few (none told)) fault))
+        (spends_same (opening t name (state_of before h)) (Err e) before h new (files_stopped h new e is))
         (runs_fault MISSING_FILE name e h new f fault is owns)))
 
     -- files failed
@@ -164,6 +166,7 @@ module _ {T : Type 0} (hear part : T → Record → T → Type 0) (name : List �
         (tells_of (Err stop.ReadFailed) h new f (outside before reads' tells loan) a a
         (did_by hear part (opening t name (state_of before h)) (Err stop.ReadFailed) h new f (outside before reads' tells loan) a a
         (λ told. meets_quiet hear part (opening t name (state_of before h)) (Err stop.ReadFailed) (state_of before new) a tt)
+        (spends_same (opening t name (state_of before h)) (Err stop.ReadFailed) before h new (files_stopped h new stop.ReadFailed is))
         (record {
           stops = record { kept = ap (λ (h : Held). h.stop) is; reads = rose; tells = refl; loan = refl };
           limit = tt;
@@ -196,6 +199,7 @@ module _ {T : Type 0} (hear part : T → Record → T → Type 0) (name : List �
         subst (λ (s : Stop). Opening (Err s) h new f g a a) (sym short)
         (tells_of (Err stop.NoMemory) h new f g a a
         (did_by hear part (opening t name (state_of before h)) (Err stop.NoMemory) h new f g a a (λ told. part_untold hear part (opening t name (state_of before h)) a)
+        (λ told little. spent_still (Err stop.NoMemory) before now h.input.sources new.input.sources (added (opening t name (state_of before h))) (c.total ∙ o.total) (files_stopped h new stop.NoMemory is).readers little)
         (record {
           stops = record { kept = ap (λ (h : Held). h.stop) is; reads = count; tells = refl; loan = refl };
           limit = tt;
@@ -222,11 +226,14 @@ module _ {T : Type 0} (hear part : T → Record → T → Type 0) (name : List �
     tells_opened r new reads reads' tells tells' loan loan' a b few is sound count told stops same progress limit files =
         let f = outside before reads tells loan in
         let g = outside now reads' tells' loan' in
+        let answers : IsTrue before.tells → opening t name (state_of before h) ≡ after (opens there) (tell (record_of t [] there) (state_of now mid)) = λ shown.
+        opening_found name t (state_of before h) there few (is shown) ∙ ap (λ s. after (opens there) (tell (record_of t [] there) s)) (sym (state_opened before now h there id owns o shown)) in
         tells_of r h new f g a b
         (did_by hear part (opening t name (state_of before h)) r h new f g a b
         (λ shown.
-        let e = opening_found name t (state_of before h) there few (is shown) ∙ ap (tell (record_of t [] there)) (sym (state_opened before now h there id owns o shown)) in
-        subst (λ x. Meets hear part x r (state_of now new) a b) (sym e) (told now))
+        subst (λ x. Meets hear part x r (state_of now new) a b) (sym (answers shown)) (meets_after hear part (opens there) (tell (record_of t [] there) (state_of now mid)) r (state_of now new) a a b refl (told now)))
+        (λ shown little.
+        spent_opened r before now h.input.sources new.input.sources (added (opening t name (state_of before h))) id o.total files.readers little (omega (arith, ap (λ x. length (added x).opened) (answers shown))))
         (record {
           stops = stops_told r reads reads' tells tells' loan loan' new.stop count (stops now reads);
           limit = limit;

@@ -1,5 +1,5 @@
 -- What an engine stands for when tokens are put before its rest.
-use Rattle.std.proofs.Common.{◌≡◌, ◌-◌, ◌++◌, ◌∷◌, Bool, true, false, List, map, length, refl, ap, ◌∙◌, arith}
+use Rattle.std.proofs.Common.{◌≡◌, ◌-◌, ◌++◌, ◌∷◌, Bool, true, false, List, [], map, length, refl, ap, ◌∙◌, arith}
 use Rattle.texml_base.specs.Outside.{Shelf}
 use Rattle.texml_token.specs.declared.tokens.Token.{Token as TokenCode}
 use Rattle.texml_token.specs.Numbers.{token_at, tokens_at, TokenWithin, TokensWithin}
@@ -10,7 +10,7 @@ use Rattle.texml_input.proofs.Sources.{aside_put, ids_put, room_put, within_put}
 use Rattle.texml_input.proofs.Standing.{rest_tokens, within_back}
 use Rattle.texml_expand.specs.State.{State}
 use Rattle.texml_expand.specs.Expand.{put, back, finished}
-use Rattle.texml_expand.specs.Held.{Held, state_of, Sound, Kept, SameFiles, Puts}
+use Rattle.texml_expand.specs.Held.{Held, state_of, Sound, Kept, readers_of, SameFiles, Puts}
 
 -- other sources are in front
 abbrev pub with_sources : Held → List Source → Held
@@ -45,12 +45,16 @@ pub puts_back : (h : Held) (t : TokenCode) (frozen : Bool) → Puts 1 h (with_so
 puts_back h t true = record { limit = refl; nesting = refl; begun = refl; room = λ shelf. omega arith }
 puts_back h t false = record { limit = refl; nesting = refl; begun = refl; room = λ shelf. omega arith }
 
+pub readers_put : (list : List TokenCode) (s : List Source) → readers_of (map Plain list ++ s) ≡ readers_of s
+readers_put [] s = refl
+readers_put (t ∷ list) s = readers_put list s
+
 pub files_put : (h : Held) (list : List TokenCode) → SameFiles h (with_sources h (map Plain list ++ h.input.sources))
-files_put h list = record { ids = ids_put list h.input.sources }
+files_put h list = record { ids = ids_put list h.input.sources; readers = readers_put list h.input.sources }
 
 pub files_back : (h : Held) (t : TokenCode) (frozen : Bool) → SameFiles h (with_sources h (back_source t frozen ∷ h.input.sources))
-files_back h t true = record { ids = refl }
-files_back h t false = record { ids = refl }
+files_back h t true = record { ids = refl; readers = refl }
+files_back h t false = record { ids = refl; readers = refl }
 
 -- the end of an expansion, before it is told of
 pub state_finished : (h : Held) (list : List TokenCode) (shelf : Shelf)
@@ -58,4 +62,4 @@ pub state_finished : (h : Held) (list : List TokenCode) (shelf : Shelf)
 state_finished h list shelf = ap (λ (s : State). record s { nesting = h.nesting - 1 }) (state_put h list shelf)
 
 pub files_finished : (h new : Held) (list : List TokenCode) → SameFiles (record h { input = record h.input { sources = map Plain list ++ h.input.sources }; nesting = h.nesting - 1 }) new → SameFiles h new
-files_finished h new list same = record { ids = same.ids ∙ ids_put list h.input.sources }
+files_finished h new list same = record { ids = same.ids ∙ ids_put list h.input.sources; readers = same.readers ∙ readers_put list h.input.sources }

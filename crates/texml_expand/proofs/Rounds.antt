@@ -1,5 +1,5 @@
 -- Fetching and expanding, step by step.
-use Rattle.std.proofs.Common.{◌≡◌, ◌+◌, ◌-◌, ◌≤◌, ◌<◌, ℕ, Bool, List, ◌++◌, append_assoc, Option, Some, None, Result, Ok, Err, refl, sym, ap, subst, arith}
+use Rattle.std.proofs.Common.{◌≡◌, ◌+◌, ◌-◌, ◌≤◌, ◌<◌, ℕ, Bool, List, Option, Some, None, Result, Ok, Err, refl, sym, ap, subst, arith}
 use Rattle.std.specs.Result.{OnOk}
 use Rattle.texml_token.specs.Token.{Token}
 use Rattle.texml_watch.specs.declared.record.Record.{Record}
@@ -8,7 +8,7 @@ use Rattle.texml_base.specs.Outside.{Shelf}
 use Rattle.texml_input.specs.Held.{Plain}
 use Rattle.texml_input.specs.Next.{Taken}
 use Rattle.texml_expand.specs.declared.variables.Index.{Index}
-use Rattle.texml_expand.specs.State.{Answer, Done, Ended, Unfinished, Gains, Reading, chain, after, ◌⊕◌, ◌>>=◌}
+use Rattle.texml_expand.specs.State.{Answer, Done, Ended, Unfinished, Reading, chain, ◌>>=◌}
 use Rattle.texml_expand.specs.Calls.{Expandable, Input, Gift}
 use Rattle.texml_expand.specs.declared.engine.expanding.Gift.{Gift as GiftCode}
 use Rattle.texml_expand.specs.Quantities.{Looked, read_index, next_looked}
@@ -27,18 +27,9 @@ use Rattle.texml_expand.proofs.Including.{lawful_file_name, lawful_opened}
 use Rattle.texml_expand.proofs.Levels.{lawful_given}
 use Rattle.texml_expand.proofs.Doing.{Did, does_of, did_of, did_as, did_then, did_stop, did_silent, did_gets, did_now, does_stop}
 use Rattle.texml_expand.proofs.Fronts.{begun_kept}
+use Rattle.texml_expand.proofs.Spending.{chain_after, spends_same}
 
 -- one reading, and what follows two of them
-after_after : {A : Type 0} (g h : Gains) (x : Answer A) → after g (after h x) ≡ after (g ⊕ h) x
-after_after g h (Done a s more) = ap (λ rows. Done a s (record { records = rows })) (sym (append_assoc g.records h.records more.records))
-after_after g h (Ended e more) = ap (λ rows. Ended e (record { records = rows })) (sym (append_assoc g.records h.records more.records))
-after_after g h (Unfinished more) = ap (λ rows. Unfinished (record { records = rows })) (sym (append_assoc g.records h.records more.records))
-
-chain_after : {A B : Type 0} (g : Gains) (x : Answer A) (k : A → Reading B) → chain (after g x) k ≡ after g (chain x k)
-chain_after g (Done a s more) k = sym (after_after g more (k a s))
-chain_after g (Ended e more) k = refl
-chain_after g (Unfinished more) k = refl
-
 chain_chain : {A B C : Type 0} (x : Answer A) (f : A → Reading B) (k : B → Reading C) → chain (chain x f) k ≡ chain x (λ v. f v >>= k)
 chain_chain (Done a s gains) f k = chain_after gains (f a s) k
 chain_chain (Ended e gains) f k = refl
@@ -141,7 +132,7 @@ module _ {T : Type 0} (hear part : T → Record → T → Type 0) where
   expand_unnamed t e old mid new f g a b d k = expand_ungiven t Input e old mid new f g a b d (does_stop hear part file_name (λ name c. opened name) lawful_file_name lawful_opened e mid new f g a b k)
 
   did_told : {A : Type 0} (x : Reading A) (r : Result A Stop) (old new : Held) (f g : Outside) (a b : T) → Tells hear part x r old new f g a b → Did hear part (x (state_of f.shelf old)) r old new f g a b
-  did_told x r old new f g a b d = record { meets = d.meets; stops = d.stops; limit = d.limit; keeps = d.keeps; progress = d.progress; holds = d.holds }
+  did_told x r old new f g a b d = record { meets = d.meets; spends = d.spends; stops = d.stops; limit = d.limit; keeps = d.keeps; progress = d.progress; holds = d.holds }
 
   pub expand_opens : (t : Token) (name : List ℕ) (r : Result (Unit {0}) Stop) (old mid now new : Held) (f g h : Outside) (a b c : T) → Did hear part (begin (state_of f.shelf old)) (Ok tt) old mid f f a a
       → Does hear part (λ n. file_name (level n)) (Ok name) mid now f g a b → Tells hear part (opening t name) r now new g h b c → Does hear part (λ n. (level n).expand t Input) r old new f h a c
@@ -169,6 +160,7 @@ module _ {T : Type 0} (hear part : T → Record → T → Type 0) where
       → Did hear part (finish t (gift_at old.names gift) (state_of shelf old)) r old new (outside shelf reads tells loan) (outside shelf reads tells' loan') a b
   finish_did t u gift r old new shelf reads tells tells' loan loan' a b e meets stops keeps limit progress files owns = record {
     meets = λ told. subst (λ x. Meets hear part (finish x (gift_at old.names gift) (state_of shelf old)) r (state_of shelf new) a b) e (meets shelf);
+    spends = spends_same (finish t (gift_at old.names gift) (state_of shelf old)) r shelf old new files;
     stops = stops shelf reads;
     limit = limit;
     keeps = keeps;

@@ -9,7 +9,7 @@ use Rattle.texml_expand.specs.declared.stop.Stop.TheVariants as stop
 use Rattle.texml_expand.specs.State.{Reading}
 use Rattle.texml_expand.specs.Expand.{ByDepth}
 use Rattle.texml_expand.specs.Contract.{Outside, outside, files_at, IsFaultAt, stop_after}
-use Rattle.texml_expand.specs.Held.{Held, place_of, Sound, Kept, Progress, IsAtLimit, Owns, Holding, SameFiles, ok_at, Shrinks, Begun, Puts}
+use Rattle.texml_expand.specs.Held.{Held, place_of, Sound, Kept, Progress, IsAtLimit, Owns, Holding, readers_of, SameFiles, ok_at, Shrinks, Begun, Puts}
 use Rattle.texml_expand.specs.Doing.{Does, Gets, Runs}
 use Rattle.texml_expand.proofs.Meeting.{NothingFails, stops_untold, stops_then, stops_same, stops_as}
 use Rattle.texml_expand.proofs.Fronts.{kept_then, kept_itself}
@@ -35,10 +35,10 @@ holding_same shelf old new owns same = record {
 }
 
 pub files_stopped : (old new : Held) (e : Stop) → new ≡ record old { stop = Some e } → SameFiles old new
-files_stopped old new e is = record { ids = ap (λ (h : Held). ids_of h.input.sources) is }
+files_stopped old new e is = record { ids = ap (λ (h : Held). ids_of h.input.sources) is; readers = ap (λ (h : Held). readers_of h.input.sources) is }
 
 pub files_same : (old new : Held) → new ≡ old → SameFiles old new
-files_same old new is = record { ids = ap (λ (h : Held). ids_of h.input.sources) is }
+files_same old new is = record { ids = ap (λ (h : Held). ids_of h.input.sources) is; readers = ap (λ (h : Held). readers_of h.input.sources) is }
 
 -- Room
 

@@ -9,7 +9,7 @@ use Rattle.texml_cond.specs.Skipping.{skip}
 use Rattle.texml_input.specs.Rest.{Item, Tok, Frozen, Text, item_size, size}
 use Rattle.texml_input.specs.Next.{next}
 use Rattle.texml_input.specs.Codes.{cats_of, end_of}
-use Rattle.texml_expand.specs.State.{State, End, Tex, room, nothing, Answer, Done, Ended, Unfinished, Reading, fault_at, after, chain}
+use Rattle.texml_expand.specs.State.{State, Tex, room, nothing, Answer, Done, Ended, Unfinished, Reading, fault_at, after, chain}
 use Rattle.texml_expand.specs.Take.{take_given, means}
 use Rattle.texml_expand.specs.Least.{inside, inner_token}
 use Rattle.texml_expand.specs.Branches.{Sought, Met, Ends, Chooses, Forbidden, Passes, meets}
@@ -35,7 +35,7 @@ ends_here : (s : State) → s.rest ≡ [] → inner_token s ≡ Ended (Tex (faul
 ends_here s e = ap (λ r. chain (take_given (next (cats_of s.world) (end_of s.world) r s.place) s) inside) e
 
 nothing_left : (s : State) → room s ≤ 0 → skipped s ≡ Ended (Tex (fault_at FILE_ENDED [] s.place)) nothing
-nothing_left s le = by_least_cut (λ list. reached (skip (map (means s.world) list))) s (Tex (fault_at FILE_ENDED [] s.place)) (ends_here s (no_items s.rest (omega (arith, le)))) refl
+nothing_left s le = by_least_cut (λ list. reached (skip (map (means s.world) list))) s (Tex (fault_at FILE_ENDED [] s.place)) nothing (ends_here s (no_items s.rest (omega (arith, le)))) refl
 
 -- Each number of words that is no less than the room gives the same
 
@@ -73,43 +73,25 @@ enough (suc n) (suc m) at sought s h k =
 
 -- One word after the other
 
-seek_word : (at : ℕ) (sought : Sought) (s t : State) (word : Word) → skipped s ≡ Done word t nothing → seek at sought s ≡ after nothing (met_word (seek_past (room s) at) at sought word t)
-seek_word at sought s t word e = enough (room s) (suc (room s)) at sought s (omega arith) (omega arith) ∙ ap (λ a. chain a (met_word (seek_past (room s) at) at sought)) e
-
-pub seek_stops : (at : ℕ) (sought : Sought) (s : State) (end : End) → skipped s ≡ Ended end nothing → seek at sought s ≡ Ended end nothing
-seek_stops at sought s end e = enough (room s) (suc (room s)) at sought s (omega arith) (omega arith) ∙ ap (λ a. chain a (met_word (seek_past (room s) at) at sought)) e
-
-module _ (at : ℕ) (sought : Sought) (s t : State) (word : Word) (e : skipped s ≡ Done word t nothing) where
-  smaller : room t + 1 ≤ room s
-  smaller = (leads_at (λ w u. Reaches s u) (skipped s) word t nothing e (skipped_reaches s)).room
-
-  at_own : nat_le (length t.conditionals) (at + 1) ≡ true → seek at sought s ≡ after nothing (met_own (seek_past (room s) at) at (meets sought word) t)
-  at_own own = seek_word at sought s t word e ∙ ap (λ b. after nothing ((if b then met_own (seek_past (room s) at) at (meets sought word) else met_inner (seek_past (room s) at sought) word) t)) own
-
-  pub seek_ends : nat_le (length t.conditionals) (at + 1) ≡ true → meets sought word ≡ Ends → seek at sought s ≡ Done tt (closed t) nothing
-  seek_ends own m = at_own own ∙ ap (λ x. after nothing (met_own (seek_past (room s) at) at x t)) m
-
-  pub seek_chooses : (limit : Bound) → nat_le (length t.conditionals) (at + 1) ≡ true → meets sought word ≡ Chooses limit → seek at sought s ≡ Done tt (bounded at limit t) nothing
-  seek_chooses limit own m = at_own own ∙ ap (λ x. after nothing (met_own (seek_past (room s) at) at x t)) m
-
-  pub seek_forbids : nat_le (length t.conditionals) (at + 1) ≡ true → meets sought word ≡ Forbidden → seek at sought s ≡ Ended (Tex (fault_at EXTRA_COND [] t.place)) nothing
-  seek_forbids own m = at_own own ∙ ap (λ x. after nothing (met_own (seek_past (room s) at) at x t)) m
-
-  on_now : (c : Sought) (u : State) → room u ≤ room t → after nothing (seek_past (room s) at c u) ≡ seek at c u
-  on_now c u le = after_nothing (seek_past (room s) at c u) ∙ enough (room s) (room u) at c u (omega (arith, le, smaller)) (omega arith)
-
-  pub seek_passes : (c : Sought) → nat_le (length t.conditionals) (at + 1) ≡ true → meets sought word ≡ Passes c → seek at sought s ≡ seek at c t
-  seek_passes c own m = at_own own ∙ ap (λ x. after nothing (met_own (seek_past (room s) at) at x t)) m ∙ on_now c t (omega arith)
-
-  at_inner : nat_le (length t.conditionals) (at + 1) ≡ false → seek at sought s ≡ after nothing (met_inner (seek_past (room s) at sought) word t)
-  at_inner inner = seek_word at sought s t word e ∙ ap (λ b. after nothing ((if b then met_own (seek_past (room s) at) at (meets sought word) else met_inner (seek_past (room s) at sought) word) t)) inner
+-- a word is reached, and what it does
+pub seek_is : (at : ℕ) (sought : Sought) (s : State) → seek at sought s ≡ chain (skipped s) (met_word (seek at) at sought)
+seek_is at sought s =
+    enough (room s) (suc (room s)) at sought s (omega arith) (omega arith)
+    ∙ same_behind at sought (seek_past (room s) at) (seek at) s (skipped s) (skipped_reaches s) (λ c u le. enough (room s) (room u) at c u (omega (arith, le)) (omega arith))
 
 -- the state behind a word of a conditional that began inside the test
 abbrev pub passed : Word → State → State
 passed words.Fi t = closed t
 passed word t = t
 
-pub seek_inner : (at : ℕ) (sought : Sought) (s t : State) (word : Word) → skipped s ≡ Done word t nothing → nat_le (length t.conditionals) (at + 1) ≡ false → seek at sought s ≡ seek at sought (passed word t)
-seek_inner at sought s t words.Fi e inner = at_inner at sought s t words.Fi e inner ∙ after_nothing (after nothing (seek_past (room s) at sought (closed t))) ∙ on_now at sought s t words.Fi e sought (closed t) (omega arith)
-seek_inner at sought s t words.Else e inner = at_inner at sought s t words.Else e inner ∙ on_now at sought s t words.Else e sought t (omega arith)
-seek_inner at sought s t words.Or e inner = at_inner at sought s t words.Or e inner ∙ on_now at sought s t words.Or e sought t (omega arith)
+module _ (at : ℕ) (sought : Sought) (t : State) (word : Word) where
+  pub word_own : nat_le (length t.conditionals) (at + 1) ≡ true → met_word (seek at) at sought word t ≡ met_own (seek at) at (meets sought word) t
+  word_own own = ap (λ b. (if b then met_own (seek at) at (meets sought word) else met_inner (seek at sought) word) t) own
+
+inner_by : (at : ℕ) (sought : Sought) (t : State) (word : Word) → met_inner (seek at sought) word t ≡ seek at sought (passed word t)
+inner_by at sought t words.Fi = after_nothing (seek at sought (closed t))
+inner_by at sought t words.Else = refl
+inner_by at sought t words.Or = refl
+
+pub word_inner : (at : ℕ) (sought : Sought) (t : State) (word : Word) → nat_le (length t.conditionals) (at + 1) ≡ false → met_word (seek at) at sought word t ≡ seek at sought (passed word t)
+word_inner at sought t word inner = ap (λ b. (if b then met_own (seek at) at (meets sought word) else met_inner (seek at sought) word) t) inner ∙ inner_by at sought t word

@@ -1,5 +1,5 @@
 -- Skipped text, token by token.
-use Rattle.std.proofs.Common.{◌≡◌, ◌+◌, ◌==◌, ◌≤◌, Bool, true, false, ◌&&◌, if◌then◌else◌, count_by, List, [], ◌∷◌, ◌++◌, append_assoc, append-nil, length, map, Option, Some, None, refl, sym, ap, ap₂, ◌∙◌, arith}
+use Rattle.std.proofs.Common.{◌≡◌, ℕ, ◌+◌, ◌==◌, ◌≤◌, Bool, true, false, ◌&&◌, if◌then◌else◌, count_by, List, [], ◌∷◌, ◌++◌, append_assoc, append-nil, length, map, Option, Some, None, refl, sym, ap, ap₂, ◌∙◌, arith}
 use Rattle.std.proofs.lemmas.List.{map-append}
 use Rattle.std.proofs.lemmas.List.Folds.{fold-map}
 use Rattle.texml_token.specs.Token.{Token}
@@ -17,12 +17,12 @@ use Rattle.texml_expand.specs.declared.feeding.Verdict.{Verdict}
 use Rattle.texml_expand.specs.declared.feeding.Verdict.TheVariants.{TooShort, Yields, Refuses}
 use Rattle.texml_input.specs.Next.{Taken, Given, Got, AtEnd, Invalid, NotUtf8, next}
 use Rattle.texml_input.specs.Codes.{cats_of, end_of}
-use Rattle.texml_expand.specs.State.{State, End, Tex, room, nothing, Done, Ended, fault_at}
+use Rattle.texml_expand.specs.State.{State, Gains, Tex, room, nothing, Done, Ended, chain, fault_at}
 use Rattle.texml_expand.specs.Take.{take_token, take_given, take, means}
 use Rattle.texml_expand.specs.Least.{inside_if, inside, inner_token, decides, by_least}
 use Rattle.texml_expand.specs.Conditionals.{reached, skipped}
 use Rattle.texml_expand.proofs.Leading.{Leads, leads_chain, leads_weaker, leads_at}
-use Rattle.texml_expand.proofs.Stepping.{behind_one, by_least_on, by_least_now, by_least_cut, Decided, by_least_takes}
+use Rattle.texml_expand.proofs.Stepping.{behind_one, by_least_is, by_least_now, Decided, by_least_takes}
 
 -- Skipping goes by what tokens do in it alone
 
@@ -58,12 +58,12 @@ same_skip ms ns e = behind_parts [] ms ∙ ap (skip_parts []) e ∙ sym (behind_
 
 -- Taking a token changes no meaning
 
-token_world : (b : Bool) (x : Taken) (s t : State) → t.world ≡ s.world → Leads (λ o u. u.world ≡ s.world) (take_token b x t)
-token_world true x s t e = tt
-token_world false x s t e = e
+token_world : (b : Bool) (x : Taken) (bytes : ℕ) (s t : State) → t.world ≡ s.world → Leads (λ o u. u.world ≡ s.world) (take_token b x bytes t)
+token_world true x bytes s t e = tt
+token_world false x bytes s t e = e
 
 given_world : (s : State) (g : Given) → Leads (λ o t. t.world ≡ s.world) (take_given g s)
-given_world s (Got x rest place bytes) = token_world (s.absorbing && x.crossed) x s (record s { rest = rest; place = place }) refl
+given_world s (Got x rest place bytes) = token_world (s.absorbing && x.crossed) x bytes s (record s { rest = rest; place = place }) refl
 given_world s (AtEnd place bytes) = refl
 given_world s (Invalid c place bytes) = tt
 given_world s (NotUtf8 place bytes) = tt
@@ -84,64 +84,57 @@ inner_world s = leads_chain (λ o t. t.world ≡ s.world) (λ y u. u.world ≡ s
 
 -- Skipping on
 
--- tokens of these meanings were skipped, and what more tokens decide is decided behind them
+-- tokens of these meanings were skipped, and this is what more tokens decide behind them
 pub record Skips (s : State) (seen : List MeaningCode) (now : State) : Type 0 where
   pub meant : List Meaning
   pub parts : map part_of meant ≡ map part_of seen
   pub world : now.world ≡ s.world
   pub decide : List Token → Verdict Word
   pub on : (list : List Token) → decide list ≡ reached (skip (meant ++ map (means s.world) list))
-  pub is : skipped s ≡ by_least decide now
 
-pub skips_none : (s : State) → Skips s [] s
-skips_none s = record { meant = []; parts = refl; world = refl; decide = λ list. reached (skip (map (means s.world) list)); on = λ list. refl; is = refl }
+abbrev pub skips_none : (s : State) → Skips s [] s
+skips_none s = record { meant = []; parts = refl; world = refl; decide = λ list. reached (skip (map (means s.world) list)); on = λ list. refl }
 
 module _ (s now : State) (seen : List MeaningCode) (h : Skips s seen now) (fed : skip seen ≡ More) where
   short : h.decide [] ≡ TooShort
   short = h.on [] ∙ ap (λ (ms : List Meaning). reached (skip ms)) (append-nil h.meant) ∙ ap reached (same_skip h.meant seen h.parts ∙ fed)
 
-  short_decides : decides (h.decide []) ≡ false
-  short_decides = ap decides short
+  -- the next token, and what is decided behind it
+  pub skips_next : by_least h.decide now ≡ chain (inner_token now) (λ t. by_least (behind_one h.decide t))
+  skips_next = by_least_is h.decide now (ap decides short)
 
-  -- the next token can't be taken
-  pub skips_stop : (end : End) → inner_token now ≡ Ended end nothing → skipped s ≡ Ended end nothing
-  skips_stop end e = h.is ∙ by_least_cut h.decide now end e short_decides
+module _ (s now : State) (seen : List MeaningCode) (h : Skips s seen now) (t : Token) (new : State) (gains : Gains) (e : inner_token now ≡ Done t new gains) (m : MeaningCode) (means_so : part_of (means new.world t) ≡ part_of m) where
+  pub stays : new.world ≡ s.world
+  stays = leads_at (λ y u. u.world ≡ now.world) (inner_token now) t new gains e (inner_world now) ∙ h.world
 
-  module _ (t : Token) (new : State) (e : inner_token now ≡ Done t new nothing) (m : MeaningCode) (means_so : part_of (means new.world t) ≡ part_of m) where
-    stays : new.world ≡ s.world
-    stays = leads_at (λ y u. u.world ≡ now.world) (inner_token now) t new nothing e (inner_world now) ∙ h.world
+  pub all : List Meaning
+  all = h.meant ++ means s.world t ∷ []
 
-    all : List Meaning
-    all = h.meant ++ means s.world t ∷ []
+  pub all_parts : map part_of all ≡ map part_of (seen ++ m ∷ [])
+  unfolding all
+  all_parts =
+      map-append part_of h.meant (means s.world t ∷ [])
+      ∙ ap₂ (λ a p. a ++ p ∷ []) h.parts (ap (λ w. part_of (means w t)) (sym stays) ∙ means_so)
+      ∙ sym (map-append part_of seen (m ∷ []))
 
-    all_parts : map part_of all ≡ map part_of (seen ++ m ∷ [])
-    unfolding all
-    all_parts =
-        map-append part_of h.meant (means s.world t ∷ [])
-        ∙ ap₂ (λ a p. a ++ p ∷ []) h.parts (ap (λ w. part_of (means w t)) (sym stays) ∙ means_so)
-        ∙ sym (map-append part_of seen (m ∷ []))
+  pub on_all : (list : List Token) → h.decide (t ∷ list) ≡ reached (skip (all ++ map (means s.world) list))
+  unfolding all
+  on_all list = h.on (t ∷ list) ∙ ap (λ (ms : List Meaning). reached (skip ms)) (sym (append_assoc h.meant (means s.world t ∷ []) (map (means s.world) list)))
 
-    on_all : (list : List Token) → h.decide (t ∷ list) ≡ reached (skip (all ++ map (means s.world) list))
-    unfolding all
-    on_all list = h.on (t ∷ list) ∙ ap (λ (ms : List Meaning). reached (skip ms)) (sym (append_assoc h.meant (means s.world t ∷ []) (map (means s.world) list)))
+  -- more is skipped
+  abbrev pub skips_more : Skips s (seen ++ m ∷ []) new
+  skips_more = record { meant = all; parts = all_parts; world = stays; decide = behind_one h.decide t; on = on_all }
 
-    goes_on : skipped s ≡ by_least (behind_one h.decide t) new
-    goes_on = h.is ∙ by_least_on h.decide now new t e short_decides
+  verdict : (step : SkipStep) → skip (seen ++ m ∷ []) ≡ step → h.decide (t ∷ []) ≡ reached step
+  verdict step d = on_all [] ∙ ap (λ (ms : List Meaning). reached (skip ms)) (append-nil all) ∙ ap reached (same_skip all (seen ++ m ∷ []) all_parts ∙ d)
 
-    -- more is skipped
-    pub skips_more : Skips s (seen ++ m ∷ []) new
-    skips_more = record { meant = all; parts = all_parts; world = stays; decide = behind_one h.decide t; on = on_all; is = goes_on }
+  -- a word is reached
+  pub skips_reach : (word : Word) → skip (seen ++ m ∷ []) ≡ Reached word → by_least (behind_one h.decide t) new ≡ Done word new nothing
+  skips_reach word d = by_least_now (behind_one h.decide t) new (Yields word) (verdict (Reached word) d) refl
 
-    verdict : (step : SkipStep) → skip (seen ++ m ∷ []) ≡ step → h.decide (t ∷ []) ≡ reached step
-    verdict step d = on_all [] ∙ ap (λ (ms : List Meaning). reached (skip ms)) (append-nil all) ∙ ap reached (same_skip all (seen ++ m ∷ []) all_parts ∙ d)
-
-    -- a word is reached
-    pub skips_reach : (word : Word) → skip (seen ++ m ∷ []) ≡ Reached word → skipped s ≡ Done word new nothing
-    skips_reach word d = goes_on ∙ by_least_now (behind_one h.decide t) new (Yields word) (verdict (Reached word) d) refl
-
-    -- too many conditionals have begun
-    pub skips_deep : skip (seen ++ m ∷ []) ≡ TooDeep → skipped s ≡ Ended (Tex (fault_at DEPTH [] new.place)) nothing
-    skips_deep d = goes_on ∙ by_least_now (behind_one h.decide t) new (Refuses DEPTH) (verdict TooDeep d) refl
+  -- too many conditionals have begun
+  pub skips_deep : skip (seen ++ m ∷ []) ≡ TooDeep → by_least (behind_one h.decide t) new ≡ Ended (Tex (fault_at DEPTH [] new.place)) nothing
+  skips_deep d = by_least_now (behind_one h.decide t) new (Refuses DEPTH) (verdict TooDeep d) refl
 
 -- Less is left to be read behind skipped text
 

@@ -1,18 +1,18 @@
 -- Spaces that are taken, one after the other.
-use Rattle.std.proofs.Common.{◌≡◌, ◌+◌, ◌≤◌, ℕ, zero, suc, Bool, true, false, ◌||◌, if◌then◌else◌, append-nil, IsTrue, Option, Some, None, Result, Ok, Err, refl, sym, ap, ◌∙◌, subst, arith}
+use Rattle.std.proofs.Common.{◌≡◌, ◌+◌, ◌≤◌, ℕ, zero, suc, Bool, true, false, ◌||◌, if◌then◌else◌, Option, Some, None, Result, Ok, Err, refl, sym, ap, ◌∙◌, arith}
 use Rattle.texml_expand.specs.declared.stop.Stop.{Stop}
 use Rattle.texml_expand.specs.declared.stop.Stop.TheVariants as stop
 use Rattle.texml_input.specs.Next.{Taken}
-use Rattle.texml_expand.specs.State.{State, End, Tex, Limit, room, nothing, Answer, Done, Ended, Unfinished, Reading, after, chain, give}
+use Rattle.texml_expand.specs.State.{State, Gains, room, Answer, Done, Ended, Unfinished, Reading, after, chain, ◌>>=◌, give}
 use Rattle.texml_expand.specs.Take.{take}
 use Rattle.texml_expand.specs.Arguments.{is_space, past_space, past_spaces, behind_spaces}
 use Rattle.texml_expand.specs.Held.{Held, world_in, state_of, Sound, Owns, Shrinks}
-use Rattle.texml_expand.specs.Contract.{Quiet, Outside}
-use Rattle.texml_expand.specs.Doing.{Gets, Runs}
+use Rattle.texml_expand.specs.Contract.{Outside}
+use Rattle.texml_expand.specs.Doing.{Gets}
 use Rattle.texml_expand.proofs.Leading.{Leads, leads_at, count}
-use Rattle.texml_expand.proofs.Deciding.{after_nothing}
-use Rattle.texml_expand.proofs.Running.{told_on, shrinks_none, shrinks_then, runs_then, runs_as, runs_now, runs_out, gets_runs}
-use Rattle.texml_expand.proofs.Getting.{gets_by}
+use Rattle.texml_expand.proofs.Running.{shrinks_none, shrinks_then}
+use Rattle.texml_expand.proofs.Spending.{plus_nothing}
+use Rattle.texml_expand.proofs.Getting.{gets_as, gets_then, gets_stop, gets_now, gets_out}
 use Rattle.texml_expand.proofs.Least.{Takes, take_takes, takes_room}
 
 pub or_right : (a b c : Bool) → a ≡ false → b ≡ c → b ≡ (a || c)
@@ -20,7 +20,7 @@ or_right a b c e f = f ∙ ap (λ x. x || c) (sym e)
 
 -- where nothing is left, no space can be passed over
 none_left : (a : Answer (Option Taken)) (s : State) (next : Reading (Option Taken)) → room s ≤ 0 → Leads (λ o t. Takes (count o) s t) a → a ≡ chain a (past_space next)
-none_left (Done None t gains) s next le h = ap (λ r. Done None t (record { records = r })) (sym (append-nil gains.records))
+none_left (Done None t gains) s next le h = ap (λ g. Done None t g) (sym (plus_nothing gains))
 none_left (Done (Some x) t gains) s next le h = let few = takes_room 1 s t h in absurd (omega (arith, le, few))
 none_left (Ended e gains) s next le h = refl
 none_left (Unfinished gains) s next le h = refl
@@ -42,79 +42,52 @@ enough zero (suc m) s h k = none_left (take s) s (past_spaces m) h (take_takes s
 enough (suc n) zero s h k = sym (none_left (take s) s (past_spaces n) k (take_takes s))
 enough (suc n) (suc m) s h k = same_behind (take s) s (past_spaces n) (past_spaces m) (λ t le. enough n m t (omega (arith, le, h)) (omega (arith, le, k))) (take_takes s)
 
-past_one : (n : ℕ) (s t : State) (x : Taken) → take s ≡ Done (Some x) t nothing → is_space t.world x.token ≡ true → past_spaces (suc n) s ≡ past_spaces n t
-past_one n s t x e b =
-    ap (λ a. chain a (past_space (past_spaces n))) e ∙ after_nothing ((if is_space t.world x.token then past_spaces n else give (Some x)) t)
-    ∙ ap (λ c. (if c then past_spaces n else give (Some x)) t) b
+-- the next token is taken, and a space is passed over
+pub behind_is : (s : State) → behind_spaces s ≡ chain (take s) (past_space behind_spaces)
+behind_is s = enough (room s) (suc (room s)) s (omega arith) (omega arith) ∙ same_behind (take s) s (past_spaces (room s)) behind_spaces (λ t le. enough (room s) (room t) t (omega (arith, le)) (omega arith)) (take_takes s)
 
-past_none : (n : ℕ) (s t : State) → take s ≡ Done None t nothing → past_spaces n s ≡ Done None t nothing
-past_none zero s t e = e
-past_none (suc n) s t e = ap (λ a. chain a (past_space (past_spaces n))) e
+pub take_smaller : (s t : State) (x : Taken) (gains : Gains) → take s ≡ Done (Some x) t gains → room t + 1 ≤ room s
+take_smaller s t x gains e = let g : Takes 1 s t = leads_at (λ o u. Takes (count o) s u) (take s) (Some x) t gains e (take_takes s) in g.lower.size g.begun
 
-past_other : (n : ℕ) (s t : State) (x : Taken) → take s ≡ Done (Some x) t nothing → is_space t.world x.token ≡ false → past_spaces n s ≡ Done (Some x) t nothing
-past_other zero s t x e b = e
-past_other (suc n) s t x e b = ap (λ a. chain a (past_space (past_spaces n))) e ∙ ap (λ c. after nothing ((if c then past_spaces n else give (Some x)) t)) b
-
-past_end : (n : ℕ) (s : State) (end : End) → take s ≡ Ended end nothing → past_spaces n s ≡ Ended end nothing
-past_end zero s end e = e
-past_end (suc n) s end e = ap (λ a. chain a (past_space (past_spaces n))) e
-
-space_on : (s t : State) (x : Taken) → take s ≡ Done (Some x) t nothing → is_space t.world x.token ≡ true → behind_spaces s ≡ behind_spaces t
-space_on s t x e b =
-    let g : Takes 1 s t = leads_at (λ o u. Takes (count o) s u) (take s) (Some x) t nothing e (take_takes s) in
-    let le = g.lower.size g.begun in
-    enough (room s) (suc (room s)) s (omega arith) (omega arith) ∙ past_one (room s) s t x e b ∙ enough (room s) (room t) t (omega (arith, le)) (omega arith)
-
-pub take_smaller : (s t : State) (x : Taken) → take s ≡ Done (Some x) t nothing → room t + 1 ≤ room s
-take_smaller s t x e = let g : Takes 1 s t = leads_at (λ o u. Takes (count o) s u) (take s) (Some x) t nothing e (take_takes s) in g.lower.size g.begun
-
--- an engine that passes over spaces
+-- an engine that passes over spaces: what it does from now on is what the whole does
 pub record Spacing (old : Held) (f : Outside) (now : Held) (g : Outside) : Type 0 where
   pub running : now.stop ≡ None
   pub sound : Sound now
   pub owns : Owns g.shelf now
-  pub runs : Runs {A = Unit {0}} (Ok tt) old now f g
   pub lower : Shrinks 0 f.shelf old g.shelf now
-  pub same : IsTrue f.shelf.tells → behind_spaces (state_of f.shelf old) ≡ behind_spaces (state_of g.shelf now)
+  pub on : (r : Result (Option Taken) Stop) (new : Held) (h : Outside) → Gets behind_spaces r now new g h → Gets behind_spaces r old new f h
 
 pub spacing_none : (h : Held) (f : Outside) → h.stop ≡ None → Sound h → Owns f.shelf h → Spacing h f h f
-spacing_none h f running sound owns = record { running = running; sound = sound; owns = owns; runs = runs_now tt h f sound running owns; lower = shrinks_none f.shelf h; same = λ told. refl }
+spacing_none h f running sound owns = record { running = running; sound = sound; owns = owns; lower = shrinks_none f.shelf h; on = λ r new g d. d }
+
+-- a token, and what it is behind it
+by_take : (x : Option Taken) (r : Result (Option Taken) Stop) (now mid new : Held) (g m h : Outside) → Gets take (Ok x) now mid g m → Gets (past_space behind_spaces x) r mid new m h → Gets behind_spaces r now new g h
+by_take x r now mid new g m h d e = gets_as (take >>= past_space behind_spaces) behind_spaces r now new g h (behind_is (state_of g.shelf now)) (gets_then take (past_space behind_spaces) x r now mid new g m h d e)
+
+past_if : (x : Taken) (b : Bool) (s : State) → is_space s.world x.token ≡ b → past_space behind_spaces (Some x) s ≡ (if b then behind_spaces else give (Some x)) s
+past_if x b s e = ap (λ c. (if c then behind_spaces else give (Some x)) s) e
 
 module _ (old now new : Held) (f g h : Outside) (i : Spacing old f now g) where
-  on : IsTrue f.shelf.tells → IsTrue g.shelf.tells
-  on told = told_on f.shelf g.shelf old now i.runs.holds told
-
   pub spacing_on : (x : Taken) → Gets take (Ok (Some x)) now new g h → is_space (world_in new) x.token ≡ true → Shrinks 1 g.shelf now h.shelf new → Spacing old f new h
   spacing_on x d b low = record {
     running = d.stops.kept;
     sound = d.keeps.sound;
     owns = d.holds.owns;
-    runs = runs_then tt (Ok tt) old now new f g h i.runs (runs_as (Some x) tt now new g h (gets_runs take (Ok (Some x)) now new g h d));
     lower = shrinks_then 0 1 0 f.shelf g.shelf h.shelf old now new i.lower low (omega arith);
-    same = λ told. i.same told ∙ space_on (state_of g.shelf now) (state_of h.shelf new) x (d.reads (on told)) b;
+    on = λ r z k y. i.on r z k (by_take (Some x) r now new z g h k d (gets_as behind_spaces (past_space behind_spaces (Some x)) r new z h k (past_if x true (state_of h.shelf new) b) y));
   }
 
-  spaced : (r : Result (Option Taken) Stop) → Runs r now new g h → (IsTrue g.shelf.tells → Quiet (behind_spaces (state_of g.shelf now)) r (state_of h.shelf new)) → Gets behind_spaces r old new f h
-  spaced r d q = gets_by behind_spaces r old new f h (λ told. subst (λ a. Quiet a r (state_of h.shelf new)) (sym (i.same told)) (q (on told))) (runs_then tt r old now new f g h i.runs d)
-
   pub spacing_ends : Gets take (Ok None) now new g h → Gets behind_spaces (Ok None) old new f h
-  spacing_ends d = spaced (Ok None) (gets_runs take (Ok None) now new g h d) (λ told. past_none (room (state_of g.shelf now)) (state_of g.shelf now) (state_of h.shelf new) (d.reads told))
+  spacing_ends d = i.on (Ok None) new h (by_take None (Ok None) now new new g h h d (gets_now None new h d.keeps.sound d.stops.kept d.holds.owns))
 
   pub spacing_found : (x : Taken) → Gets take (Ok (Some x)) now new g h → is_space (world_in new) x.token ≡ false → Gets behind_spaces (Ok (Some x)) old new f h
-  spacing_found x d b = spaced (Ok (Some x)) (gets_runs take (Ok (Some x)) now new g h d) (λ told. past_other (room (state_of g.shelf now)) (state_of g.shelf now) (state_of h.shelf new) x (d.reads told) b)
-
-  spaces_stop : (e : Stop) (s u v : State) → Quiet (take s) (Err e) u → Quiet (behind_spaces s) (Err e) v
-  spaces_stop (stop.Tex x) s u v q = past_end (room s) s (Tex x) q
-  spaces_stop (stop.Limit n) s u v q = past_end (room s) s (Limit n) q
-  spaces_stop stop.ReadFailed s u v q = tt
-  spaces_stop stop.TellFailed s u v q = absurd q
-  spaces_stop stop.NoMemory s u v q = tt
+  spacing_found x d b =
+      i.on (Ok (Some x)) new h (by_take (Some x) (Ok (Some x)) now new new g h h d
+      (gets_as (give (Some x)) (past_space behind_spaces (Some x)) (Ok (Some x)) new new h h (past_if x false (state_of h.shelf new) b) (gets_now (Some x) new h d.keeps.sound d.stops.kept d.holds.owns)))
 
   pub spacing_stops : (e : Stop) → Gets take (Err e) now new g h → Gets behind_spaces (Err e) old new f h
-  spacing_stops e d = spaced (Err e) (gets_runs take (Err e) now new g h d) (λ told. spaces_stop e (state_of g.shelf now) (state_of h.shelf new) (state_of h.shelf new) (d.reads told))
+  spacing_stops e d = i.on (Err e) new h (gets_as (take >>= past_space behind_spaces) behind_spaces (Err e) now new g h (behind_is (state_of g.shelf now)) (gets_stop take (past_space behind_spaces) e now new g h d))
 
 -- what a token means can't be told
 pub spacing_out : (e : Stop) (x : Taken) (old now mid new : Held) (f g h : Outside) → Spacing old f now g → Gets take (Ok (Some x)) now mid g h → e ≡ stop.NoMemory → new ≡ record mid { stop = Some stop.NoMemory } → Gets behind_spaces (Err e) old new f h
-spacing_out e x old now mid new f g h i d short is =
-    gets_by behind_spaces (Err e) old new f h (λ told. subst (λ (s : Stop). Quiet (behind_spaces (state_of f.shelf old)) (Err s) (state_of h.shelf new)) (sym short) tt)
-    (runs_then tt (Err e) old now new f g h i.runs (runs_then (Some x) (Err e) now mid new g h h (gets_runs take (Ok (Some x)) now mid g h d) (runs_out e mid new h short is d.holds.owns)))
+spacing_out e x old now mid new f g h i d short is = i.on (Err e) new h (by_take (Some x) (Err e) now mid new g h h d (gets_out (past_space behind_spaces (Some x)) e mid new h short is d.holds.owns))

@@ -3,11 +3,11 @@ use Rattle.std.proofs.Common.{◌≡◌, ◌+◌, ◌≤◌, ◌<◌, ℕ, zero,
 use Rattle.texml_token.specs.Token.{Token}
 use Rattle.texml_expand.specs.declared.feeding.Verdict.{Verdict}
 use Rattle.texml_expand.specs.declared.feeding.Verdict.TheVariants.{TooShort, Yields, Refuses}
-use Rattle.texml_expand.specs.State.{State, End, Gains, room, nothing, Answer, Done, Ended, Unfinished, after, chain, give}
+use Rattle.texml_expand.specs.State.{State, End, Gains, room, nothing, Answer, Done, Ended, Unfinished, after, chain, IsDecided, give}
 use Rattle.texml_expand.specs.Least.{inner_token, next_tokens, least, decides, decided, is_enough, by_tokens, by_least}
 use Rattle.texml_expand.proofs.Leading.{Leads, leads_chain, leads_at}
-use Rattle.texml_expand.proofs.Least.{Takes, Took, inner_takes, next_took, one_more, least_is, least_holds, enough_past, by_least_at, by_least_ends}
-use Rattle.texml_expand.proofs.Fed.{tokens_more_one, tokens_end}
+use Rattle.texml_expand.proofs.Least.{Takes, Took, inner_takes, inner_decided, next_took, one_more, least_is, least_holds, enough_past, by_least_at, by_least_ends}
+use Rattle.texml_expand.proofs.Spending.{chain_after}
 
 -- the least number is no greater than the bound, and the test fails below it
 least_le : (n : ℕ) (p : ℕ → Bool) → least n p ≤ n
@@ -49,18 +49,24 @@ before_more t (Ended e gains) = refl
 before_more t (Unfinished gains) = refl
 
 -- the first of so many tokens, and the others
-front_tokens : (k : ℕ) (s u : State) (t : Token) → inner_token s ≡ Done t u nothing → next_tokens (suc k) s ≡ before t (next_tokens k u)
-front_tokens zero s u t e = tokens_more_one s s u [] t 0 refl e
-front_tokens (suc k) s u t e = ap (λ a. chain a one_more) (front_tokens k s u t e) ∙ before_more t (next_tokens k u)
+front_tokens : (k : ℕ) (s u : State) (t : Token) (gains : Gains) → inner_token s ≡ Done t u gains → next_tokens (suc k) s ≡ after gains (before t (next_tokens k u))
+front_tokens zero s u t gains e = ap (λ a. after nothing (chain a (λ x. give ([] ++ x ∷ [])))) e
+front_tokens (suc k) s u t gains e =
+    ap (λ a. chain a one_more) (front_tokens k s u t gains e) ∙ chain_after gains (before t (next_tokens k u)) one_more ∙ ap (after gains) (before_more t (next_tokens k u))
 
 -- a token leaves less to be read
-token_smaller : (s u : State) (t : Token) → inner_token s ≡ Done t u nothing → room u + 1 ≤ room s
-token_smaller s u t e = let l = leads_at (λ x v. Takes 1 s v) (inner_token s) t u nothing e (inner_takes s) in l.lower.size l.begun
+token_smaller : (s u : State) (t : Token) (gains : Gains) → inner_token s ≡ Done t u gains → room u + 1 ≤ room s
+token_smaller s u t gains e = let l = leads_at (λ x v. Takes 1 s v) (inner_token s) t u gains e (inner_takes s) in l.lower.size l.begun
 
 module _ {A : Type 0} (decide : List Token → Verdict A) where
   -- what more tokens decide behind one
   abbrev pub behind_one : Token → List Token → Verdict A
   behind_one t list = decide (t ∷ list)
+
+  enough_after : (gains : Gains) (a : Answer (List Token)) → is_enough decide (after gains a) ≡ is_enough decide a
+  enough_after gains (Done list s more) = refl
+  enough_after gains (Ended e more) = refl
+  enough_after gains (Unfinished more) = refl
 
   enough_before : (t : Token) (a : Answer (List Token)) → is_enough decide (before t a) ≡ is_enough (behind_one t) a
   enough_before t (Done list s gains) = refl
@@ -72,7 +78,7 @@ module _ {A : Type 0} (decide : List Token → Verdict A) where
   decided_before t (Ended e gains) = refl
   decided_before t (Unfinished gains) = refl
 
-  module _ (s u : State) (t : Token) (e : inner_token s ≡ Done t u nothing) (short : decides (decide []) ≡ false) where
+  module _ (s u : State) (t : Token) (gains : Gains) (e : inner_token s ≡ Done t u gains) (short : decides (decide []) ≡ false) where
     abbrev all : ℕ → Bool
     all k = is_enough decide (next_tokens k s)
 
@@ -80,7 +86,7 @@ module _ {A : Type 0} (decide : List Token → Verdict A) where
     others k = is_enough (behind_one t) (next_tokens k u)
 
     all_suc : (k : ℕ) → all (suc k) ≡ others k
-    all_suc k = ap (is_enough decide) (front_tokens k s u t e) ∙ enough_before t (next_tokens k u)
+    all_suc k = ap (is_enough decide) (front_tokens k s u t gains e) ∙ enough_after gains (before t (next_tokens k u)) ∙ enough_before t (next_tokens k u)
 
     abbrev least_others : ℕ
     least_others = least (room u + 1) others
@@ -92,26 +98,36 @@ module _ {A : Type 0} (decide : List Token → Verdict A) where
     least_all : least (room s + 1) all ≡ suc least_others
     least_all =
         let le = least_le (room u + 1) others in
-        let smaller = token_smaller s u t e in
+        let smaller = token_smaller s u t gains e in
         least_is (room s + 1) (suc least_others) all (omega (arith, le, smaller)) fails_below
         (all_suc least_others ∙ least_holds (room u + 1) others (enough_past (behind_one t) (room u + 1) u (next_tokens (room u + 1) u) (omega arith) (next_took (room u + 1) u)))
 
     -- a token that is too short by itself, and what the others decide behind it
-    pub by_least_on : by_least decide s ≡ by_least (behind_one t) u
+    by_least_on : by_least decide s ≡ after gains (by_least (behind_one t) u)
     by_least_on =
-        ap (λ k. by_tokens decide k s) least_all ∙ ap (λ a. chain a (λ list. decided (decide list))) (front_tokens least_others s u t e) ∙ decided_before t (next_tokens least_others u)
+        ap (λ k. by_tokens decide k s) least_all ∙ ap (λ a. chain a (λ list. decided (decide list))) (front_tokens least_others s u t gains e)
+        ∙ chain_after gains (before t (next_tokens least_others u)) (λ list. decided (decide list)) ∙ ap (after gains) (decided_before t (next_tokens least_others u))
 
   -- nothing more is needed
   pub by_least_now : (s : State) (v : Verdict A) → decide [] ≡ v → decides v ≡ true → by_least decide s ≡ after nothing (decided v s)
-  by_least_now s v e d = by_least_at decide s s [] v refl e d (λ j lt. absurd (omega (arith, lt)))
+  by_least_now s v e d = by_least_at decide s s [] nothing v refl e d (λ j lt. absurd (omega (arith, lt)))
 
   -- the next token can't be taken
-  pub by_least_cut : (s : State) (end : End) → inner_token s ≡ Ended end nothing → decides (decide []) ≡ false → by_least decide s ≡ Ended end nothing
-  by_least_cut s end e short = by_least_ends decide s 1 end (omega arith) (tokens_end s s [] end 0 refl e) first
+  pub by_least_cut : (s : State) (end : End) (gains : Gains) → inner_token s ≡ Ended end gains → decides (decide []) ≡ false → by_least decide s ≡ Ended end gains
+  by_least_cut s end gains e short = by_least_ends decide s 1 end gains (omega arith) (ap (λ a. after nothing (chain a (λ x. give ([] ++ x ∷ [])))) e) first
     where
       first : (j : ℕ) → j < 1 → is_enough decide (next_tokens j s) ≡ false
       first zero lt = short
       first (suc j) lt = absurd (omega (arith, lt))
+
+  -- where no token is too few: the next one, and what the others decide behind it
+  by_least_from : (s : State) (a : Answer Token) → inner_token s ≡ a → decides (decide []) ≡ false → by_least decide s ≡ chain a (λ t. by_least (behind_one t))
+  by_least_from s (Done t u gains) e short = by_least_on s u t gains e short
+  by_least_from s (Ended end gains) e short = by_least_cut s end gains e short
+  by_least_from s (Unfinished gains) e short = absurd (subst IsDecided e (inner_decided s))
+
+  pub by_least_is : (s : State) → decides (decide []) ≡ false → by_least decide s ≡ chain (inner_token s) (λ t. by_least (behind_one t))
+  by_least_is s short = by_least_from s (inner_token s) refl short
 
   -- a value was decided by a list, which was taken, and no expansion began
   pub record Decided (s : State) (v : A) (t : State) : Type 0 where

@@ -22,10 +22,13 @@ use Rattle.texml_expand.specs.Machine.{mapped}
 use Rattle.texml_expand.specs.Held.{Held, state_of}
 use Rattle.texml_expand.specs.Contract.{Outside}
 use Rattle.texml_expand.specs.Hearing.{MeetsFirst, MeetsCut, MeetsPart, MeetsEnd, Meets, Follows}
+use Rattle.texml_base.specs.Outside.{Shelf}
 use Rattle.texml_expand.specs.Doing.{Does}
+use Rattle.texml_expand.specs.Spending.{Spent, SpendsBy}
 use Rattle.texml_expand.specs.Scanning.{MayGive}
 use Rattle.texml_expand.proofs.Meeting.{stops_as}
 use Rattle.texml_expand.proofs.Running.{limit_as}
+use Rattle.texml_expand.proofs.Spending.{spent_err, spent_ok}
 
 -- an answer on other values
 abbrev pub answered : {V W : Type 0} → (V → W) → Answer V → Answer W
@@ -156,6 +159,18 @@ module _ {T : Type 0} (hear part : T → Record → T → Type 0) {V W : Type 0}
         let is = sym (same d.depth) ∙ d.is in
         record { depth = d.depth; decided = decided_as f (q d.depth) (subst IsDecided (sym is) d.decided); meets = subst (λ z. Meets hear part z r s x y) (sym is) k.meets }
 
+    pub spends_as : {B : Type 0} (r : Result B Stop) (before now : Shelf) (old new : Held) → SpendsBy p r before now old new → SpendsBy q r before now old new
+    spends_as r before now old new spends told little =
+        let k = spends told little in
+        let d = k.given in
+        let is = sym (same d.depth) ∙ d.is in
+        record {
+          answer = q d.depth;
+          given = record { depth = d.depth; is = refl; decided = decided_as f (q d.depth) (subst IsDecided (sym is) d.decided) };
+          spent =
+              subst (λ g. Spent r before now old.input.sources new.input.sources g) (sym (ap (λ (z : Answer W). added z) is) ∙ added_same f (q d.depth)) k.spent;
+        }
+
     pub follows_stop : (e : Stop) (s : State) (x y : T) → Follows hear part p (Err e) s x y → Follows hear part q (Err e) s x y
     follows_stop e s x y k =
         let m = met (Err e) s x y k in
@@ -184,6 +199,10 @@ module _ {T : Type 0} (hear part : T → Record → T → Type 0) {V W : Type 0}
       follows = λ told.
           let s = state_of i.shelf old in
           follows_stop (λ n. (level n).scan g [] s) (λ n. (level n).scan r [] s) (λ n. scan_same f g r same n [] s) e (state_of j.shelf new) x y (d.follows told);
+      spends = λ told little.
+          let s = state_of i.shelf old in
+          let k = spends_as (λ n. (level n).scan g [] s) (λ n. (level n).scan r [] s) (λ n. scan_same f g r same n [] s) {B = W} (Err e) i.shelf j.shelf old new d.spends told little in
+          record { answer = k.answer; given = k.given; spent = spent_err W V e i.shelf j.shelf old.input.sources new.input.sources (added k.answer) k.spent };
       stops = stops_as W V e i j new.stop d.stops;
       limit = limit_as W V e new d.limit;
       keeps = tt;
@@ -197,6 +216,10 @@ module _ {T : Type 0} (hear part : T → Record → T → Type 0) {V W : Type 0}
           let s = state_of i.shelf old in
           let k = follows_value (λ n. (level n).scan g [] s) (λ n. (level n).scan r [] s) (λ n. scan_same f g r same n [] s) w (state_of j.shelf new) x y (d.follows told) in
           subst (λ z. Follows hear part (λ n. (level n).scan r [] s) (Ok z) (state_of j.shelf new) x y) (one k.value v (sym k.is ∙ e)) k.follows;
+      spends = λ told little.
+          let s = state_of i.shelf old in
+          let k = spends_as (λ n. (level n).scan g [] s) (λ n. (level n).scan r [] s) (λ n. scan_same f g r same n [] s) (Ok w) i.shelf j.shelf old new d.spends told little in
+          record { answer = k.answer; given = k.given; spent = spent_ok w v i.shelf j.shelf old.input.sources new.input.sources (added k.answer) k.spent };
       stops = record { kept = d.stops.kept; reads = d.stops.reads; tells = d.stops.tells; loan = d.stops.loan };
       limit = tt;
       keeps = d.keeps;

@@ -5,7 +5,7 @@ use Rattle.texml_expand.specs.declared.stop.Stop.{Stop}
 use Rattle.texml_expand.specs.declared.stop.Stop.TheVariants as stop
 use Rattle.texml_base.specs.Outside.{Shelf}
 use Rattle.texml_input.specs.Rest.{Place}
-use Rattle.texml_expand.specs.State.{State, room, Tex, Limit, nothing, Answer, Done, Ended, Reading, IsDecided, fault_at}
+use Rattle.texml_expand.specs.State.{State, room, Tex, Limit, nothing, loads, Answer, Done, Ended, Reading, IsDecided, fault_at}
 use Rattle.texml_expand.specs.Held.{Held, state_of}
 
 -- some depth decides, and gives this
@@ -70,11 +70,11 @@ Silent answer (Err stop.NoMemory) s = Unit {0}
 abbrev pub Local : {A : Type 0} → Reading A → Result A Stop → Held → Held → Type 0
 Local reading result old new = (shelf : Shelf) → Silent (reading (state_of shelf old)) result (state_of shelf new)
 
--- an answer without gains, where files are asked, which may fail
+-- an answer that gains no more than bytes that were loaded, where files are asked, which may fail
 abbrev pub Quiet : {A : Type 0} → Answer A → Result A Stop → State → Type 0
-Quiet answer (Ok v) s = answer ≡ Done v s nothing
-Quiet answer (Err (stop.Tex f)) s = answer ≡ Ended (Tex f) nothing
-Quiet answer (Err (stop.Limit n)) s = answer ≡ Ended (Limit n) nothing
+Quiet answer (Ok v) s = (sizes : List ℕ) × (answer ≡ Done v s (loads sizes))
+Quiet answer (Err (stop.Tex f)) s = (sizes : List ℕ) × (answer ≡ Ended (Tex f) (loads sizes))
+Quiet answer (Err (stop.Limit n)) s = (sizes : List ℕ) × (answer ≡ Ended (Limit n) (loads sizes))
 Quiet answer (Err stop.ReadFailed) s = Unit {0}
 Quiet answer (Err stop.TellFailed) s = ⊥
 Quiet answer (Err stop.NoMemory) s = Unit {0}

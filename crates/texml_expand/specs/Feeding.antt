@@ -11,8 +11,10 @@ use Rattle.texml_expand.specs.declared.stop.Stop.{Stop}
 use Rattle.texml_expand.specs.declared.stop.Stop.TheVariants as stop
 use Rattle.texml_expand.specs.declared.feeding.Verdict.{Verdict}
 use Rattle.texml_expand.specs.declared.feeding.Verdict.TheVariants.{TooShort, Yields, Refuses}
-use Rattle.texml_expand.specs.State.{State, End, Tex, Limit, nothing, Done, Ended, fault_at}
+use Rattle.texml_expand.specs.State.{State, End, Tex, Limit, Gains, loads, ◌⊕◌, added, Done, Ended, fault_at}
 use Rattle.texml_expand.specs.Held.{Held, Shrinks}
+use Rattle.texml_input.specs.Held.{Source, AreLittle}
+use Rattle.texml_expand.specs.Spending.{Spent}
 use Rattle.texml_expand.specs.Least.{inner_token, next_tokens}
 use Rattle.texml_expand.specs.Absorb.{closes}
 
@@ -29,14 +31,16 @@ module _ {V : Type 0} (judge : Judge V) (old : State) where
   -- the next j tokens are these, and don't decide
   pub record Short (texts : Table) (j : ℕ) (list : List TokenCode) : Type 0 where
     pub now : State
-    pub tokens : next_tokens j old ≡ Done (tokens_at texts list) now nothing
+    pub sizes : List ℕ
+    pub tokens : next_tokens j old ≡ Done (tokens_at texts list) now (loads sizes)
     pub is : judge texts list ≡ TooShort
 
   -- the next tokens are these, and no first part of them decides
   pub record Seen (texts : Table) (list : List TokenCode) (now : State) : Type 0 where
     pub numbered : Numbered texts
     pub within : TokensWithin (length texts) list
-    pub tokens : next_tokens (length list) old ≡ Done (tokens_at texts list) now nothing
+    pub sizes : List ℕ
+    pub tokens : next_tokens (length list) old ≡ Done (tokens_at texts list) now (loads sizes)
     pub before : (j : ℕ) → j < length list → Short texts j (take j list)
 
   -- they decide
@@ -52,7 +56,8 @@ module _ {V : Type 0} (judge : Judge V) (old : State) where
     pub now : State
     pub seen : Seen texts list now
     pub is : judge texts list ≡ TooShort
-    pub cut : inner_token now ≡ Ended end nothing
+    pub last : List ℕ
+    pub cut : inner_token now ≡ Ended end (loads last)
 
   -- why feeding ends with a fault
   pub data EndsWith (fault : Fault) : Type 0 where
@@ -71,6 +76,20 @@ module _ {V : Type 0} (judge : Judge V) (old : State) where
   -- the same, if the files tell what they have
   abbrev pub FeedsTold : Shelf → Result V Stop → Table → State → Type 0
   FeedsTold before result texts now = IsTrue before.tells → Feeds result texts now
+
+  -- these are the gains of the next tokens that decide, or of those that don't and the one behind them
+  pub data FedGains (gains : Gains) : Type 0 where
+    Deciding : (texts : Table) (now : State) (verdict : Verdict V) (s : Settled texts now verdict) → gains ≡ loads s.seen.sizes → FedGains gains
+    Behind : (texts : Table) (list : List TokenCode) (now : State) (s : Seen texts list now) → judge texts list ≡ TooShort → gains ≡ loads s.sizes ⊕ added (inner_token now) → FedGains gains
+
+  -- what files gave is no more than what these load
+  pub record FedSpent (result : Result V Stop) (before now : Shelf) (a b : List Source) : Type 0 where
+    pub gains : Gains
+    pub fed : FedGains gains
+    pub spent : Spent result before now a b gains
+
+  abbrev pub FedSpends : Result V Stop → Shelf → Shelf → Held → Held → Type 0
+  FedSpends result before now held new = IsTrue before.tells → AreLittle held.input.sources → FedSpent result before now held.input.sources new.input.sources
 
 -- tokens were fed that decide on a value, and less is left to read by each of them
 pub record FedBy {V : Type 0} (judge : Judge V) (value : V) (before : Shelf) (old : Held) (now : Shelf) (new : Held) : Type 0 where

@@ -10,7 +10,7 @@ use Rattle.texml_input.specs.Next.{Taken}
 use Rattle.texml_input.specs.Searching.{names_tried, first_there}
 use Rattle.texml_expand.specs.declared.engine.including.TheConstants.{MOST_FILES}
 use Rattle.texml_expand.specs.declared.gathering.Gathering.TheVariants.{FileName, All}
-use Rattle.texml_expand.specs.State.{State, Reading, ◌>>=◌, ◌>>◌, give, fail, change}
+use Rattle.texml_expand.specs.State.{State, Done, Reading, opens, ◌>>=◌, ◌>>◌, give, fail, change}
 use Rattle.texml_expand.specs.Take.{back}
 use Rattle.texml_expand.specs.Arguments.{behind_spaces, read_argument}
 use Rattle.texml_expand.specs.Names.{text_of}
@@ -114,7 +114,7 @@ whole_text contents name = fresh name (rows (unwrap_or (contents name) []))
 
 abbrev pub found : List ℕ → Option (List ℕ) → Reading Gift
 found name None s = fail MISSING_FILE name s
-found name (Some there) s = give (Opens (whole_text s.contents there)) s
+found name (Some there) s = Done (Opens (whole_text s.contents there)) s (opens there)
 
 -- the file that a name means, which is the first that there is of the names that are tried. So many may be open and no more
 abbrev pub opened : List ℕ → Reading Gift

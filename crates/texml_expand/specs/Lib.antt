@@ -19,6 +19,7 @@ pub mod Expand
 pub mod Absorb
 pub mod Held
 pub mod Contract
+pub mod Spending
 pub mod Hearing
 pub mod Laws
 pub mod Lending

@@ -1,5 +1,5 @@
 -- A state of the engine, and what a reading answers from one.
-use Rattle.std.specs.Prelude.{ℕ, ◌+◌, Bool, List, [], ◌∷◌, ◌++◌, length, sum_by, Option}
+use Rattle.std.specs.Prelude.{ℕ, zero, suc, ◌+◌, Bool, List, [], ◌∷◌, ◌++◌, length, sum_by, Option}
 use Rattle.std.specs.Option.{option_to_list}
 use Rattle.texml_token.specs.Token.{Token}
 use Rattle.texml_token.specs.declared.fault.Fault.{Fault}
@@ -39,17 +39,37 @@ pub data End : Type 0 where
 abbrev pub fault_at : ℕ → List ℕ → Place → Fault
 fault_at code about place = record { code = code; file = place.file; line = place.line; about = about }
 
--- what a reading adds: the records of the expansions that were completed in it
+-- what a reading adds: the records of the expansions that were completed in it; how many bytes were loaded, for each token for which lines were; and the
+-- names of the files that were opened
 pub record Gains : Type 0 where
   pub records : List Record
+  pub loaded : List ℕ
+  pub opened : List (List ℕ)
+
+-- how many bytes were loaded
+abbrev pub bytes_in : Gains → ℕ
+bytes_in gains = sum_by (λ n. n) gains.loaded
 
 abbrev pub nothing : Gains
-nothing = record { records = [] }
+nothing = record { records = []; loaded = []; opened = [] }
+
+-- so many bytes, if there are any
+abbrev pub some_bytes : ℕ → List ℕ
+some_bytes zero = []
+some_bytes (suc n) = suc n ∷ []
+
+-- the bytes alone
+abbrev pub loads : List ℕ → Gains
+loads sizes = record { records = []; loaded = sizes; opened = [] }
+
+-- a file alone, of which nothing is loaded yet
+abbrev pub opens : List ℕ → Gains
+opens name = record { records = []; loaded = []; opened = name ∷ [] }
 
 -- these and then those
 infixr 5 ◌⊕◌
 abbrev pub ◌⊕◌ : Gains → Gains → Gains
-◌⊕◌ a b = record { records = a.records ++ b.records }
+◌⊕◌ a b = record { records = a.records ++ b.records; loaded = a.loaded ++ b.loaded; opened = a.opened ++ b.opened }
 
 -- a value, the state behind it and what was added; or an end, with what was added before it;
 -- or no end yet, where a definition may look no deeper, with what was added until there
@@ -94,7 +114,7 @@ abbrev pub change : (State → State) → Reading (Unit {0})
 change f s = Done tt (f s) nothing
 
 abbrev pub tell : Record → Reading (Unit {0})
-tell row s = Done tt s (record { records = row ∷ [] })
+tell row s = Done tt s (record { records = row ∷ []; loaded = []; opened = [] })
 
 -- what was added
 abbrev pub added : {A : Type 0} → Answer A → Gains

@@ -13,22 +13,22 @@ use Rattle.texml_scope.specs.declared.builtins.TheConstants.{RELAX}
 use Rattle.texml_input.specs.Rest.{Tok, back_as}
 use Rattle.texml_input.specs.Next.{Taken, Given, Got, AtEnd, Invalid, NotUtf8, next}
 use Rattle.texml_input.specs.Codes.{cats_of, end_of}
-use Rattle.texml_expand.specs.State.{State, Tex, fault_at, nothing, Done, Ended, Reading}
+use Rattle.texml_expand.specs.State.{State, Tex, fault_at, some_bytes, loads, Done, Ended, Reading}
 
 -- Taking
 
--- a token, unless a file has ended on the way to it which may not end there: that is fault 4
-abbrev pub take_token : Bool → Taken → Reading (Option Taken)
-take_token true t s = Ended (Tex (fault_at FILE_ENDED [] s.place)) nothing
-take_token false t s = Done (Some t) s nothing
+-- a token, for which so many bytes were loaded, unless a file has ended on the way to it which may not end there: that is fault 4
+abbrev pub take_token : Bool → Taken → ℕ → Reading (Option Taken)
+take_token true t bytes s = Ended (Tex (fault_at FILE_ENDED [] s.place)) (loads (some_bytes bytes))
+take_token false t bytes s = Done (Some t) s (loads (some_bytes bytes))
 
 -- the token that stands at the front of the rest, or the end; a character that may not stand there is fault 15, and a line that is not UTF-8
 -- fault 20
 abbrev pub take_given : Given → Reading (Option Taken)
-take_given (Got t rest place bytes) s = take_token (s.absorbing && t.crossed) t (record s { rest = rest; place = place })
-take_given (AtEnd place bytes) s = Done None (record s { rest = []; place = place }) nothing
-take_given (Invalid c place bytes) s = Ended (Tex (fault_at INVALID_CHAR [] place)) nothing
-take_given (NotUtf8 place bytes) s = Ended (Tex (fault_at NOT_UTF8 [] place)) nothing
+take_given (Got t rest place bytes) s = take_token (s.absorbing && t.crossed) t bytes (record s { rest = rest; place = place })
+take_given (AtEnd place bytes) s = Done None (record s { rest = []; place = place }) (loads (some_bytes bytes))
+take_given (Invalid c place bytes) s = Ended (Tex (fault_at INVALID_CHAR [] place)) (loads (some_bytes bytes))
+take_given (NotUtf8 place bytes) s = Ended (Tex (fault_at NOT_UTF8 [] place)) (loads (some_bytes bytes))
 
 abbrev pub take : Reading (Option Taken)
 take s = take_given (next (cats_of s.world) (end_of s.world) s.rest s.place) s

@@ -1,5 +1,5 @@
 -- A turn of the file in front.
-use Rattle.std.proofs.Common.{◌≡◌, ℕ, ◌+◌, ◌≤◌, true, false, List, [], ◌∷◌, refl, sym, ap, ◌∙◌, subst, arith, Option, Some, Ok, Err}
+use Rattle.std.proofs.Common.{◌≡◌, ℕ, ◌+◌, ◌≤◌, Bool, true, false, if◌then◌else◌, length, List, [], ◌∷◌, refl, sym, ap, ◌∙◌, subst, arith, Option, Some, Ok, Err}
 use Rattle.texml_base.specs.Rising.{add_up}
 use Rattle.texml_base.specs.Outside.{Shelf, IsClosed}
 use Rattle.texml_token.specs.Numbers.{Table, token_at}
@@ -118,9 +118,13 @@ module _ (old mid new : Shelf) (f g : Opened) (more : List Source) (held : AreHe
       page_ended cats end (rest_at texts old more) (next cats end (rest_at texts old more)) (page_of old f) dry place rows
       ∙ ap (λ l. behind 0 true (next cats end (items_at texts l) place)) (sym rest_gone)
 
+past_all : (ended : Bool) (held : List ℕ) → length held ≤ block → (if ended then length held else past_line held) ≤ block
+past_all true held le = le
+past_all false held le = omega (arith, le, past_length held)
+
 -- little is held of the file in front
 pub little_past : (g : Opened) (more after : List Source) → after ≡ File g ∷ more → AreLittle (File g ∷ more) → AreLittlePast after
-little_past g more after is h = subst AreLittlePast (sym is) (omega (arith, past_length g.reader.held, h.0), h.1)
+little_past g more after is h = subst AreLittlePast (sym is) (past_all g.ended g.reader.held h.0, h.1)
 
-pub little_broken : (g : Opened) (more after : List Source) → after ≡ File g ∷ more → past_line g.reader.held ≤ block → AreLittle more → AreLittlePast after
-little_broken g more after is le h = subst AreLittlePast (sym is) (le, h)
+pub little_broken : (g : Opened) (more after : List Source) → after ≡ File g ∷ more → g.ended ≡ false → past_line g.reader.held ≤ block → AreLittle more → AreLittlePast after
+little_broken g more after is yet le h = subst AreLittlePast (sym is) (subst (λ e. (if e then length g.reader.held else past_line g.reader.held) ≤ block) (sym yet) le, h)

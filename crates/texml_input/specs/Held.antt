@@ -126,9 +126,13 @@ AreLittle (Marked t ∷ sources) = AreLittle sources
 AreLittle (File f ∷ sources) = (length f.reader.held ≤ block) × AreLittle sources
 AreLittle (Fence ∷ sources) = AreLittle sources
 
--- the same, where the first source is a file of which a line was being loaded: its bytes are counted from the end of that line
+-- the bytes that are ahead of a file of which a line was being loaded, counted from the end of that line; of a file that loads no line any more none was
+abbrev pub ahead_past : Opened → ℕ
+ahead_past f = if f.ended then length f.reader.held else past_line f.reader.held
+
+-- the same, where the first source is a file of which a line was being loaded
 abbrev pub AreLittlePast : List Source → Type 0
-AreLittlePast (File f ∷ sources) = (past_line f.reader.held ≤ block) × AreLittle sources
+AreLittlePast (File f ∷ sources) = (ahead_past f ≤ block) × AreLittle sources
 AreLittlePast sources = AreLittle sources
 
 -- the bytes of the line that was being loaded of the first source

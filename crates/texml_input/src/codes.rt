@@ -1,11 +1,10 @@
 //! The categories of characters and the end character, as a scope has them.
-ghost use Rattle.std.specs.Prelude.{◌≡◌, ◌<◌};
+ghost use Rattle.std.specs.Prelude.{◌≡◌};
 ghost use Rattle.texml_scope.specs.Shown.{world_of};
-ghost use Rattle.texml_input.specs.Codes.{cats_of, end_of};
+ghost use Rattle.texml_input.specs.Codes.{end_of};
 
 use texml_mouth::Codes;
 use texml_scope::{Key, Scope};
-use texml_token::category;
 
 /// The categories that characters have in a scope.
 #[derive(Clone, Copy)]
@@ -18,18 +17,7 @@ impl<'a> Codes for ScopeCodes<'a> {
     ghost cats = { λ codes. cats_of (world_of codes.0.now) };
 
     fn category(&self, code: u32) -> u8 {
-        category_in(self.0, code)
-    }
-}
-
-// The category of a character.
-fn category_in(scope: &Scope, code: u32) -> u8
-    ensures value { result ≡ cats_of (world_of scope.now) code }
-    ensures below { result < 16 }
-{
-    match scope.number(&Key::Cat(code)) {
-        Some(category) => category as u8,
-        None => category::OTHER,
+        self.0.category(code)
     }
 }
 

@@ -1,5 +1,5 @@
 //! A file that is being read line by line.
-ghost use Rattle.std.specs.Prelude.{◌≡◌, ◌≤◌, ◌+◌, [], length, None, IsTrue, IfOk, IfSome, OnOk, true, option_to_list};
+ghost use Rattle.std.specs.Prelude.{◌≡◌, ◌≤◌, ◌+◌, [], length, None, IsTrue, IfOk, IfSome, OnOk, OnErr, true, false, option_to_list};
 ghost use Rattle.texml_base.specs.Outside.{in_use};
 ghost use Rattle.texml_token.specs.Numbers.{Extends, Numbered, TokenWithin};
 ghost use Rattle.texml_text.specs.File.{character};
@@ -16,13 +16,13 @@ use texml_text::{LineFault, LineReader};
 use texml_token::{Bytes, Line, Names, Token};
 
 // A file: its name, which a place shares with it; whether it loads no line any more; the mouth of the line that it is in, which
-// has met no fault; and the reader of its lines.
+// has met no fault; and the reader of its lines, which is boxed, as a file moves with each token.
 #[derive(Debug, Drop)]
 pub struct OpenFile {
     name: Rc<Bytes>,
     ended: bool,
     mouth: Mouth,
-    reader: LineReader,
+    reader: Box<LineReader>,
 }
 
 impl Model for OpenFile {
@@ -31,7 +31,7 @@ impl Model for OpenFile {
 
     ghost Value = { Opened };
 
-    ghost view = { λ f. record { name = f.name.value; ended = f.ended; spot = f.mouth.spot; reader = f.reader } };
+    ghost view = { λ f. record { name = f.name.value; ended = f.ended; spot = f.mouth.spot; reader = f.reader.value } };
 
     ghost invariant = { λ f. f.mouth.fault ≡ None };
 }
@@ -49,11 +49,12 @@ impl OpenFile {
         ensures { IfOk result (λ f. f ≡ fresh_file id name.now) }
     {
         let name = Rc::new(alloc, name.clone()?)?;
+        let reader = Box::new(alloc, LineReader::new(alloc, id))?;
         Ok(OpenFile {
             name,
             ended: false,
             mouth: Mouth::new(Line::new(alloc)),
-            reader: LineReader::new(alloc, id),
+            reader,
         })
     }
 
@@ -120,6 +121,7 @@ impl OpenFile {
         ensures touches { Touches (F.shelf files.old) (F.shelf files.new) self.old.reader.id }
         ensures spends { IsTrue (F.shelf files.old).tells → Spends (F.shelf files.old) (F.shelf files.new) (length self.old.reader.held) (load_bytes result (rows_of (F.shelf files.old) self.old)) (length self.new.reader.held) }
         ensures little { length self.old.reader.held ≤ block → LoadsLittle result self.new.reader.held }
+        ensures broken { OnErr result (self.new.ended ≡ false) }
         ensures lower { IfOk result (λ found. LoadFalls found (file_room (F.shelf files.old) self.old) (file_room (F.shelf files.new) self.new)) }
         ensures cause { HasLineCause (F.faults files.old) (F.faults files.new) result }
     {

@@ -12,7 +12,6 @@ ghost use Rattle.texml_input.specs.Keeping.{Holds, HasInputCause};
 ghost use Rattle.texml_input.specs.Answers.{given_at, GivenWithin, IsNext, fault_after, LittleAfter, Loads, EndsAtFence};
 ghost use Rattle.texml_input.specs.Inside.{written};
 
-use crate::codes::{ScopeCodes, end_character};
 use crate::emptying::{close, count_files, drop_fence, empty, end_file_of};
 use crate::fault::{InputFault, Read};
 use crate::file::OpenFile;
@@ -110,8 +109,7 @@ impl Input {
             &mut self.frames,
             &mut self.place,
             self.alloc,
-            &ScopeCodes(scope),
-            end_character(scope),
+            scope,
             names,
             files,
         );

@@ -1,6 +1,8 @@
 //! The frames of an input, and one turn at the front of them.
 ghost use Rattle.std.specs.Prelude.{◌≡◌, ◌≤◌, ◌<◌, ℕ, ◌+◌, [], ◌∷◌, ◌++◌, length, vec_len, vec_capacity, IsTrue, MatchOption, IfSome, IfOk, OnOk, option_to_list};
 ghost use Rattle.texml_token.specs.Numbers.{Extends, Numbered, Table};
+ghost use Rattle.texml_scope.specs.Shown.{world_of};
+ghost use Rattle.texml_input.specs.Codes.{cats_of, end_of};
 ghost use Rattle.texml_input.specs.Rest.{no_place};
 ghost use Rattle.texml_input.specs.Next.{place_at, next};
 ghost use Rattle.texml_input.specs.Held.{File, ids_of, fences_of, aside_of, AreHeld, AreSound, AreLittle, SourcesWithin, rest_at, room_of, front_size};
@@ -9,6 +11,7 @@ ghost use Rattle.texml_input.specs.Answers.{given_at, GivenWithin, IsNext, Littl
 ghost use Rattle.texml_input.specs.Inside.{sources_of, written};
 ghost use Rattle.texml_input.specs.Turning.{TakesList, Turns, turn_bytes, TurnFalls, TurnWithin, TurnEnds};
 
+use crate::codes::{ScopeCodes, end_character};
 use crate::fault::{InputFault, Read};
 use crate::file::{Found, OpenFile};
 use crate::frame::{Expansion, Part};
@@ -16,7 +19,8 @@ use std::alloc::Global;
 use std::marker::Model;
 use std::rc::Rc;
 use texml_base::Files;
-use texml_mouth::{Codes, MouthFault};
+use texml_mouth::MouthFault;
+use texml_scope::Scope;
 use texml_text::LineFault;
 use texml_token::{Bytes, Names, Token};
 
@@ -90,12 +94,11 @@ impl LinePlace {
 }
 
 // Takes the next token before the first fence, if there is one.
-pub fn next_read<F: Files, C: Codes>(
+pub fn next_read<F: Files>(
     frames: &mut Vec<Frame>,
     place: &mut LinePlace,
     alloc: Global,
-    codes: &C,
-    end: Option<char>,
+    scope: &Scope,
     names: &mut Names,
     files: &mut F,
 ) -> Result<Option<Read>, InputFault>
@@ -103,10 +106,10 @@ pub fn next_read<F: Files, C: Codes>(
     requires sound { AreSound (sources_of frames.old.items) }
     requires within { SourcesWithin (length names.old) (sources_of frames.old.items) }
     requires numbered { Numbered names.old }
-    ensures next { IsTrue (F.shelf files.old).tells → IsNext (next (C.cats codes.now) end (rest_at names.old (F.shelf files.old) (sources_of frames.old.items)) place.old)
+    ensures next { IsTrue (F.shelf files.old).tells → IsNext (next (cats_of (world_of scope.now)) (end_of (world_of scope.now)) (rest_at names.old (F.shelf files.old) (sources_of frames.old.items)) place.old)
         (given_at names.new result) (rest_at names.new (F.shelf files.new) (sources_of frames.new.items)) place.new }
     ensures loads { IsTrue (F.shelf files.old).tells → AreLittle (sources_of frames.old.items) → Loads (F.shelf files.old) (F.shelf files.new) (sources_of frames.old.items) (sources_of frames.new.items)
-        (next (C.cats codes.now) end (rest_at names.old (F.shelf files.old) (sources_of frames.old.items)) place.old) result }
+        (next (cats_of (world_of scope.now)) (end_of (world_of scope.now)) (rest_at names.old (F.shelf files.old) (sources_of frames.old.items)) place.old) result }
     ensures little { AreLittle (sources_of frames.old.items) → LittleAfter result (sources_of frames.new.items) }
     ensures holds { Holds (F.shelf files.old) (F.shelf files.new) (sources_of frames.old.items) (sources_of frames.new.items) }
     ensures fences { fences_of (sources_of frames.new.items) ≡ fences_of (sources_of frames.old.items) }
@@ -122,7 +125,7 @@ pub fn next_read<F: Files, C: Codes>(
 {
     let mut crossed = false;
     loop {
-        match take_turn(frames, place, alloc, codes, end, names, files) {
+        match take_turn(frames, place, alloc, scope, names, files) {
             Err(fault) => return Err(fault),
             Ok(Turn::End) => return Ok(None),
             Ok(Turn::Token(token, frozen)) => {
@@ -140,12 +143,11 @@ pub fn next_read<F: Files, C: Codes>(
 }
 
 // A turn at the front of the frames, of which the last stands in front.
-pub fn take_turn<F: Files, C: Codes>(
+pub fn take_turn<F: Files>(
     frames: &mut Vec<Frame>,
     place: &mut LinePlace,
     alloc: Global,
-    codes: &C,
-    end: Option<char>,
+    scope: &Scope,
     names: &mut Names,
     files: &mut F,
 ) -> Result<Turn, InputFault>
@@ -153,7 +155,7 @@ pub fn take_turn<F: Files, C: Codes>(
     requires sound { AreSound (sources_of frames.old.items) }
     requires within { SourcesWithin (length names.old) (sources_of frames.old.items) }
     requires numbered { Numbered names.old }
-    ensures turns { IsTrue (F.shelf files.old).tells → Turns (C.cats codes.now) end names.new
+    ensures turns { IsTrue (F.shelf files.old).tells → Turns (cats_of (world_of scope.now)) (end_of (world_of scope.now)) names.new
         (front_size (F.shelf files.old) (sources_of frames.old.items)) (front_size (F.shelf files.new) (sources_of frames.new.items))
         (rest_at names.old (F.shelf files.old) (sources_of frames.old.items)) place.old result
         (rest_at names.new (F.shelf files.new) (sources_of frames.new.items)) place.new }
@@ -183,9 +185,7 @@ pub fn take_turn<F: Files, C: Codes>(
         Some(Frame::Frozen(token)) => Ok(Turn::Token(token, true)),
         Some(Frame::List(part)) => Ok(turn_list(frames, part)),
         Some(Frame::Macro(expansion)) => Ok(turn_macro(frames, expansion)),
-        Some(Frame::File(file)) => {
-            turn_file(frames, place, file, alloc, codes, end, names, files)
-        }
+        Some(Frame::File(file)) => { turn_file(frames, place, file, alloc, scope, names, files) }
     }
 }
 
@@ -228,13 +228,12 @@ fn turn_macro(frames: &mut Vec<Frame>, expansion: Expansion) -> Turn
 }
 
 // A turn of a file.
-fn turn_file<F: Files, C: Codes>(
+fn turn_file<F: Files>(
     frames: &mut Vec<Frame>,
     place: &mut LinePlace,
     file: OpenFile,
     alloc: Global,
-    codes: &C,
-    end: Option<char>,
+    scope: &Scope,
     names: &mut Names,
     files: &mut F,
 ) -> Result<Turn, InputFault>
@@ -242,7 +241,7 @@ fn turn_file<F: Files, C: Codes>(
     requires sound { AreSound (File file ∷ sources_of frames.old.items) }
     requires room { vec_len frames.old < vec_capacity frames.old }
     requires within { SourcesWithin (length names.old) (sources_of frames.old.items) }
-    ensures turns { IsTrue (F.shelf files.old).tells → Turns (C.cats codes.now) end names.new
+    ensures turns { IsTrue (F.shelf files.old).tells → Turns (cats_of (world_of scope.now)) (end_of (world_of scope.now)) names.new
         (front_size (F.shelf files.old) (File file ∷ sources_of frames.old.items)) (front_size (F.shelf files.new) (sources_of frames.new.items))
         (rest_at names.new (F.shelf files.old) (File file ∷ sources_of frames.old.items)) place.old result
         (rest_at names.new (F.shelf files.new) (sources_of frames.new.items)) place.new }
@@ -263,12 +262,15 @@ fn turn_file<F: Files, C: Codes>(
     ensures ends { TurnEnds result (sources_of frames.new.items) }
 {
     let mut file = file;
-    match file.token(alloc, codes, names) {
+    match file.token(alloc, &ScopeCodes(scope), names) {
         Ok(Some(token)) => {
             put_last(frames, Frame::File(file));
             Ok(Turn::Token(token, false))
         }
-        Ok(None) => turn_line(frames, place, file, end, files),
+        Ok(None) => {
+            let end = end_character(scope);
+            turn_line(frames, place, file, end, files)
+        }
         Err(MouthFault::Invalid(code)) => {
             put_last(frames, Frame::File(file));
             Err(InputFault::Invalid(code))

@@ -1,6 +1,8 @@
 //! The values that keys have before anything is set.
 
-ghost use Rattle.std.specs.Prelude.{◌≡◌, pos};
+ghost use Rattle.std.specs.Prelude.{◌≡◌, ◌<◌, ℕ, pos, slice_index};
+ghost use Rattle.texml_scope.specs.Values.{number_in};
+ghost use Rattle.texml_token.specs.declared.tokens.Token.{Token as TokenCode};
 ghost use Rattle.texml_scope.specs.Starting.{starting, initial_category, initial_lower, initial_upper};
 
 use crate::values::{Key, Meaning, Value};
@@ -14,17 +16,49 @@ pub fn start(alloc: Global, key: Key) -> Value
 {
     match key {
         Key::Name(_) | Key::Active(_) => Value::Means(Meaning::Undefined),
-        Key::Cat(code) => Value::Number(i32::from(category_of(code))),
-        Key::Lower(code) => Value::Number(lower_of(code)),
-        Key::Upper(code) => Value::Number(upper_of(code)),
-        Key::Count(_) | Key::Dimen(_) => Value::Number(0),
         Key::Skip(_) => Value::Glue(NO_GLUE),
         Key::Toks(_) | Key::CurrentLabel => Value::List(Tokens::new(alloc)),
-        Key::EscapeChar => Value::Number(92),
-        Key::EndLineChar => Value::Number(13),
         Key::Counter(_) => Value::Absent,
         Key::Within(_) => Value::Parent(None),
+        Key::Cat(_)
+        | Key::Lower(_)
+        | Key::Upper(_)
+        | Key::Count(_)
+        | Key::Dimen(_)
+        | Key::EscapeChar
+        | Key::EndLineChar => {
+            match start_number(key) {
+                Some(number) => Value::Number(number),
+                None => Value::Absent,
+            }
+        }
     }
+}
+
+/// The number of a key that was never set, if it has one.
+pub fn start_number(key: Key) -> Option<i32>
+    ensures { result ≡ number_in {T = TokenCode} (starting key) }
+{
+    match key {
+        Key::Cat(code) => Some(i32::from(category_of(code))),
+        Key::Lower(code) => Some(lower_of(code)),
+        Key::Upper(code) => Some(upper_of(code)),
+        Key::Count(_) | Key::Dimen(_) => Some(0),
+        Key::EscapeChar => Some(92),
+        Key::EndLineChar => Some(13),
+        _ => None,
+    }
+}
+
+/// The categories of the characters below 128 at the start.
+pub fn first_categories() -> [u8; 128]
+    ensures { (code : ℕ) → code < 128 → slice_index result code ≡ initial_category code }
+{
+    let mut categories = [0; 128];
+    for code in 0..128 {
+        categories[code as usize] = category_of(code);
+    }
+    categories
 }
 
 const NO_GLUE: Glue = Glue {

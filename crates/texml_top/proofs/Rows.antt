@@ -4,7 +4,7 @@ use Rattle.std.specs.Prelude.{codes}
 use Rattle.std.specs.Fmt.{digits}
 use Rattle.texml_token.specs.declared.fault_code.TheConstants.{NO_GROUP}
 use Rattle.texml_input.specs.Rest.{Page, fresh}
-use Rattle.texml_expand.specs.State.{State, Answer, Done, Ended, Unfinished, Tex, fault_at}
+use Rattle.texml_expand.specs.State.{State, Answer, loads, Done, Ended, Unfinished, Tex, fault_at}
 use Rattle.texml_top.specs.Digest.{digests}
 use Rattle.texml_top.specs.declared.request.Command.TheVariants.{Expand}
 use Rattle.texml_top.specs.Outcome.{first_state, IsOutcomeFrom, IsOutcome}
@@ -51,7 +51,7 @@ unfolding lines first read document lib.Utf8.encode
 verb = refl
 
 -- the end of a group that wasn't begun
-no_group : read 9 (codes "}" ∷ []) 9 ≡ Ended (Tex (fault_at NO_GROUP [] (record { file = codes "f"; line = 1 }))) (record { records = [] })
+no_group : read 9 (codes "}" ∷ []) 9 ≡ Ended (Tex (fault_at NO_GROUP [] (record { file = codes "f"; line = 1 }))) (loads (2 ∷ []))
 unfolding lines first read lib.Utf8.encode
 no_group = refl
 

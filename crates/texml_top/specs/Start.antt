@@ -1,9 +1,10 @@
 -- How a run starts on its file.
-use Rattle.std.specs.Prelude.{◌≡◌, ℕ, false, List, [], Option, None, Result, Ok, Err, IsTrue}
+use Rattle.std.specs.Prelude.{◌≡◌, ℕ, false, List, [], length, Option, None, Result, Ok, Err, IsTrue}
 use Rattle.texml_base.specs.Outside.{Shelf}
 use Rattle.texml_token.specs.Numbers.{Numbered}
 use Rattle.texml_scope.specs.Builtins.{first_world}
 use Rattle.texml_input.specs.Rest.{Page, Place, no_place}
+use Rattle.texml_input.specs.Held.{ids_of, ahead_of, AreLittle}
 use Rattle.texml_expand.specs.State.{fault_at}
 use Rattle.texml_expand.specs.Held.{Held, Sound, state_of, world_in}
 use Rattle.texml_top.specs.Outcome.{main_text, first_state}
@@ -48,6 +49,12 @@ Starts old new name limit (Err _) = ⊥
 abbrev pub StartBlames : Result Held Status → ℕ → ℕ → Type 0
 StartBlames (Ok engine) old new = new ≡ old
 StartBlames (Err s) old new = FilesBlamed s old new
+
+-- an engine that holds one file open, of which nothing was read
+pub record IsBefore (engine : Held) : Type 0 where
+  pub little : AreLittle engine.input.sources
+  pub ahead : ahead_of engine.input.sources ≡ 0
+  pub one : length (ids_of engine.input.sources) ≡ 1
 
 -- what is told is as before
 pub record SameOutside (old new : Shelf) : Type 0 where

@@ -97,6 +97,7 @@ fn end_of<'c, 'a>(
 }
 
 // Does what a token that was fetched asks for, and gathers what it puts into the document.
+#[inline(always)]
 fn digest_turn<F: Files, T: Teller>(
     alloc: Global,
     engine: &mut Engine,
@@ -120,6 +121,7 @@ fn digest_turn<F: Files, T: Teller>(
 }
 
 // Does what a token that was fetched asks for: what it puts into the document.
+#[inline(always)]
 fn digest_token<F: Files, T: Teller>(
     alloc: Global,
     engine: &mut Engine,
@@ -142,6 +144,7 @@ fn digest_token<F: Files, T: Teller>(
 }
 
 // Does what a token asks for that wasn't executed.
+#[inline(always)]
 fn digest_left<F: Files, T: Teller>(
     alloc: Global,
     engine: &mut Engine,
@@ -156,6 +159,9 @@ fn digest_left<F: Files, T: Teller>(
     ensures does { Does (hears T.wanting T.heard) (hears_part T.wanting T.part) (spec_digest_left (token_at engine.old.names token) NotMine) (ok_at ops_of result) engine.old engine.new
         (outside (F.shelf files.old) (F.faults files.old) (T.faults tell.old) (T.loan tell.old)) (outside (F.shelf files.new) (F.faults files.new) (T.faults tell.new) (T.loan tell.new)) tell.old tell.new }
 {
+    if let Token::Char(code, category) = token {
+        return digest_char(engine, code, category);
+    }
     let meaning = match engine.means(token) {
         Ok(meaning) => meaning,
         Err(_) => return Err(engine.no_memory()),
@@ -187,6 +193,7 @@ fn digest_meaning<F: Files, T: Teller>(
 }
 
 // Does what a character asks for.
+#[inline(always)]
 fn digest_char(engine: &mut Engine, code: u32, category: u8) -> Result<Piece, Stop>
     requires running { engine.old.stop ≡ None }
     requires sound { Sound engine.old }

@@ -44,6 +44,7 @@ impl<'c, 'a> Gathered<'c, 'a> {
     }
 
     /// Puts what a token gives behind the others.
+    #[inline(always)]
     pub fn add(&mut self, alloc: Global, piece: Piece) -> Result<(), AllocError>
         ensures { OnOk result (self.new ≡ add_all self.old (ops_of piece)) }
     {
@@ -92,6 +93,7 @@ impl<'c, 'a> Gathered<'c, 'a> {
     }
 
     // Puts a text behind the others.
+    #[inline(always)]
     fn add_text(&mut self, alloc: Global, text: &[u8]) -> Result<(), AllocError>
         ensures { OnOk result (self.new ≡ with_text self.old text.now) }
     {
@@ -102,6 +104,7 @@ impl<'c, 'a> Gathered<'c, 'a> {
     }
 
     // Puts a space behind the others.
+    #[inline(always)]
     fn add_space(&mut self, alloc: Global) -> Result<(), AllocError>
         ensures { OnOk result (self.new ≡ with_space self.old self.old.text) }
     {

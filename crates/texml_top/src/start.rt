@@ -1,7 +1,7 @@
 // Starts an engine on a file.
 ghost use Rattle.std.specs.Prelude.{◌≡◌, [], None, IfOk, OnErr};
 ghost use Rattle.texml_expand.specs.Held.{Sound, Owns};
-ghost use Rattle.texml_top.specs.Start.{IsEmpty, Starts, StartBlames, SameOutside};
+ghost use Rattle.texml_top.specs.Start.{IsEmpty, IsBefore, Starts, StartBlames, SameOutside};
 
 use crate::status::Status;
 use std::alloc::{AllocError, Global};
@@ -29,6 +29,8 @@ pub fn start_engine<F: Files>(
     ensures owns { IfOk result (Owns (F.shelf files.new)) }
     ensures same { SameOutside (F.shelf files.old) (F.shelf files.new) }
     ensures closed { OnErr result ((F.shelf files.new).ids ≡ []) }
+    ensures before { IfOk result IsBefore }
+    ensures total { (F.shelf files.new).total ≡ (F.shelf files.old).total }
 {
     let mut engine = empty_engine(alloc, name, limit)?;
     let file = match open_text(alloc, files, name) {

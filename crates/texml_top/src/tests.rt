@@ -294,3 +294,20 @@ fn calm_files_and_sinks_give_the_defined_status(rt: HostRuntime) -> Result<(), F
     }
     Ok(())
 }
+
+#[test]
+fn little_is_read_past_the_line_of_a_fault(rt: HostRuntime) -> Result<(), Fail> {
+    let alloc = rt.alloc();
+    let mut text = b"a&b\n".to_vec(alloc)?;
+    text.resize(1_000_004, b'x')?;
+    // A read gives as much as is asked for.
+    let mut files = CalmFiles::new(alloc, 2_000_000);
+    files.add(alloc, "main.tex", &text)?;
+    let words = words_of(alloc, &["convert", "main.tex"])?;
+    match calm_status(alloc, &words, &mut files) {
+        Status::Tex(fault) => assert_eq!(rt; fault.code, 18),
+        _ => assert!(rt; false),
+    }
+    assert!(rt; files.given() <= 4 + 4096);
+    Ok(())
+}

@@ -1,11 +1,13 @@
 //! The run.
 ghost use Rattle.std.specs.Prelude.{◌≡◌, ◌≢◌, [], map, string_bytes, IsTrue, None};
 ghost use Rattle.texml_base.specs.Rising.{Rose};
+ghost use Rattle.texml_input.specs.Held.{AreLittle};
 ghost use Rattle.texml_expand.specs.Held.{Sound, Owns, Holding, state_of};
 ghost use Rattle.texml_top.specs.Request.{asked};
 ghost use Rattle.texml_top.specs.Outcome.{OfOutcome, FromState};
 ghost use Rattle.texml_top.specs.Run.{EndsAs, MayEnd, FilesBlamed, SinkBlamed, FitsWords, TouchesNothing, LimitIs, WritesLate, LateAsked, WritesDocument, DocumentAsked, WritesPage, PageAsked, WholeLines, LinesBy, LinesAsked};
 ghost use Rattle.texml_top.specs.Notes.{Noted};
+ghost use Rattle.texml_top.specs.Reading.{ReadsFrom, ReadsAsked};
 ghost use Rattle.texml_top.specs.declared.request.Command.TheVariants.{Convert, Expand};
 
 use crate::digest::digest;
@@ -60,6 +62,8 @@ pub fn run<F: Files, S: Sink, N: Sink>(
     ensures notes { Noted result (N.ink notes.old) (N.ink notes.new) (N.faults notes.old) (N.faults notes.new) }
     // No file is left open.
     ensures closed { (F.shelf files.new).ids ≡ [] }
+    // Little is read ahead: no more bytes than the definitions load, and 4096 for each file that is opened.
+    ensures reads { IsTrue (F.shelf files.old).tells → ReadsAsked (asked (map string_bytes words.now)) (F.shelf files.old).contents (F.shelf files.old) (F.shelf files.new) }
 {
     let request = match read_request(words) {
         Ok(request) => request,
@@ -94,6 +98,7 @@ fn perform<F: Files, S: Sink>(
     ensures document { WritesDocument command result (S.ink out.old) (S.ink out.new) }
     ensures lines { IsTrue (F.shelf files.old).tells → (Rose (S.faults out.old) (S.faults out.new) → ⊥) → FromState command (state_of (F.shelf files.old) engine.old) (λ all. LinesBy command all (S.ink out.old) (S.ink out.new)) }
     ensures holds { Holding (F.shelf files.old) (F.shelf files.new) engine.old engine.new }
+    ensures reads { IsTrue (F.shelf files.old).tells → AreLittle engine.old.input.sources → ReadsFrom (state_of (F.shelf files.old) engine.old) engine.old.input.sources (F.shelf files.old) (F.shelf files.new) }
 {
     match command {
         Command::Convert => convert(alloc, engine, files, out),
@@ -119,6 +124,7 @@ fn convert<F: Files, S: Sink>(
     ensures page { IsTrue (F.shelf files.old).tells → FromState Convert (state_of (F.shelf files.old) engine.old) (WritesPage Convert result) }
     ensures document { WritesDocument Convert result (S.ink out.old) (S.ink out.new) }
     ensures holds { Holding (F.shelf files.old) (F.shelf files.new) engine.old engine.new }
+    ensures reads { IsTrue (F.shelf files.old).tells → AreLittle engine.old.input.sources → ReadsFrom (state_of (F.shelf files.old) engine.old) engine.old.input.sources (F.shelf files.old) (F.shelf files.new) }
 {
     let content = match model(alloc) {
         Ok(content) => content,
@@ -148,6 +154,7 @@ fn expand<F: Files, S: Sink>(
     ensures limit { LimitIs engine.old.limit result }
     ensures lines { IsTrue (F.shelf files.old).tells → (Rose (S.faults out.old) (S.faults out.new) → ⊥) → FromState Expand (state_of (F.shelf files.old) engine.old) (λ all. WholeLines all (S.ink out.old) (S.ink out.new)) }
     ensures holds { Holding (F.shelf files.old) (F.shelf files.new) engine.old engine.new }
+    ensures reads { IsTrue (F.shelf files.old).tells → AreLittle engine.old.input.sources → ReadsFrom (state_of (F.shelf files.old) engine.old) engine.old.input.sources (F.shelf files.old) (F.shelf files.new) }
 {
     let mut lines = Lines::new(out);
     trace(alloc, engine, files, &mut lines)
@@ -171,6 +178,7 @@ fn trace<F: Files, S: Sink>(
     ensures whole { IsTrue (F.shelf files.old).tells → (Rose (S.faults lines.old.sink.now) (S.faults lines.new.sink.now) → ⊥)
         → FromState Expand (state_of (F.shelf files.old) engine.old) (λ all. WholeLines all (S.ink lines.old.sink.now) (S.ink lines.new.sink.now)) }
     ensures holds { Holding (F.shelf files.old) (F.shelf files.new) engine.old engine.new }
+    ensures reads { IsTrue (F.shelf files.old).tells → AreLittle engine.old.input.sources → ReadsFrom (state_of (F.shelf files.old) engine.old) engine.old.input.sources (F.shelf files.old) (F.shelf files.new) }
 {
     match digest(alloc, engine, files, lines, Document::unwanted()) {
         Ok(_) => Status::Done,

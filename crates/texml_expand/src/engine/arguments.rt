@@ -7,7 +7,7 @@ ghost use Rattle.texml_scope.specs.Numbers.{meaning_at, MacroWithin};
 ghost use Rattle.texml_match.specs.Shape.{ShapeWithin, shape_at, is_empty};
 ghost use Rattle.texml_match.specs.Arguments.{reading, argument as spec_argument};
 ghost use Rattle.texml_expand.specs.declared.feeding.Verdict.TheVariants.{TooShort};
-ghost use Rattle.texml_expand.specs.Feeding.{FeedsTold, FedBy};
+ghost use Rattle.texml_expand.specs.Feeding.{FeedsTold, FedSpends, FedBy};
 ghost use Rattle.texml_expand.specs.Least.{inner_token as spec_inner_token};
 ghost use Rattle.texml_expand.specs.Absorb.{absorb as spec_absorb, absorb_expanded as spec_absorb_expanded};
 ghost use Rattle.texml_expand.specs.Least.{by_least};
@@ -20,6 +20,7 @@ ghost use Rattle.texml_expand.specs.Expand.{level};
 ghost use Rattle.texml_expand.specs.Fronts.{macro_at};
 ghost use Rattle.texml_expand.specs.Matched.{MatchedBy};
 ghost use Rattle.texml_expand.specs.Held.{state_of, world_in, Sound, Kept, Progress, IsAtLimit, ok_at, read_at, ReadWithin, Owns, Holding, SameFiles, Shrinks, Puts};
+ghost use Rattle.texml_expand.specs.Spending.{Spends, SpendsBy};
 ghost use Rattle.texml_expand.specs.Contract.{Local, Reads, AnswersKept, Stops, outside, files_at, stop_after};
 ghost use Rattle.texml_expand.specs.Doing.{Does, Gets, Runs};
 
@@ -62,6 +63,7 @@ impl Engine {
         requires owns { Owns (F.shelf files.old) self.old }
         ensures follows { self.old.stop ≡ None → FollowsTold (hears T.wanting T.heard) (hears_part T.wanting T.part) (F.shelf files.old) (λ n. spec_absorb expanding n (state_of (F.shelf files.old) self.old))
             (ok_at (tokens_at self.new.names) result) (state_of (F.shelf files.new) self.new) tell.old tell.new }
+        ensures spends { self.old.stop ≡ None → SpendsBy (λ n. spec_absorb expanding n (state_of (F.shelf files.old) self.old)) (ok_at (tokens_at self.new.names) result) (F.shelf files.old) (F.shelf files.new) self.old self.new }
         ensures stops { self.old.stop ≡ None → Stops result (outside (F.shelf files.old) (F.faults files.old) (T.faults tell.old) (T.loan tell.old)) (outside (F.shelf files.new) (F.faults files.new) (T.faults tell.new) (T.loan tell.new)) self.new.stop }
         ensures lower { self.old.stop ≡ None → IfOk result (λ list. Shrinks (length list + 1) (F.shelf files.old) self.old (F.shelf files.new) self.new) }
         ensures progress { Progress self.old self.new }
@@ -95,6 +97,7 @@ impl Engine {
         requires sound { self.old.stop ≡ None → Sound self.old }
         requires owns { Owns (F.shelf files.old) self.old }
         ensures reads { self.old.stop ≡ None → Reads (F.shelf files.old) (spec_read_argument (state_of (F.shelf files.old) self.old)) (ok_at (tokens_at self.new.names) result) (state_of (F.shelf files.new) self.new) }
+        ensures spends { self.old.stop ≡ None → Spends (spec_read_argument (state_of (F.shelf files.old) self.old)) (ok_at (tokens_at self.new.names) result) (F.shelf files.old) (F.shelf files.new) self.old self.new }
         ensures stops { self.old.stop ≡ None → Stops result (outside (F.shelf files.old) (F.faults files.old) (T.faults tell.old) (T.loan tell.old)) (outside (F.shelf files.new) (F.faults files.new) (T.faults tell.new) (T.loan tell.new)) self.new.stop }
         ensures lower { self.old.stop ≡ None → IfOk result (λ list. Shrinks (length list) (F.shelf files.old) self.old (F.shelf files.new) self.new) }
         ensures progress { Progress self.old self.new }
@@ -128,6 +131,7 @@ impl Engine {
         requires sound { self.old.stop ≡ None → Sound self.old }
         requires owns { Owns (F.shelf files.old) self.old }
         ensures reads { self.old.stop ≡ None → Reads (F.shelf files.old) (spec_read_optional (state_of (F.shelf files.old) self.old)) (ok_at (option_map (tokens_at self.new.names)) result) (state_of (F.shelf files.new) self.new) }
+        ensures spends { self.old.stop ≡ None → Spends (spec_read_optional (state_of (F.shelf files.old) self.old)) (ok_at (option_map (tokens_at self.new.names)) result) (F.shelf files.old) (F.shelf files.new) self.old self.new }
         ensures stops { self.old.stop ≡ None → Stops result (outside (F.shelf files.old) (F.faults files.old) (T.faults tell.old) (T.loan tell.old)) (outside (F.shelf files.new) (F.faults files.new) (T.faults tell.new) (T.loan tell.new)) self.new.stop }
         ensures lower { self.old.stop ≡ None → IfOk result (λ o. Shrinks (length (unwrap_or o [])) (F.shelf files.old) self.old (F.shelf files.new) self.new) }
         ensures progress { Progress self.old self.new }
@@ -158,6 +162,7 @@ impl Engine {
         requires owns { Owns (F.shelf files.old) self.old }
         requires short { self.old.stop ≡ None → (texts : Table) → D.judge feeder.old texts [] ≡ TooShort }
         ensures feeds { self.old.stop ≡ None → FeedsTold (D.judge feeder.old) (state_of (F.shelf files.old) self.old) (F.shelf files.old) result self.new.names (state_of (F.shelf files.new) self.new) }
+        ensures spends { self.old.stop ≡ None → FedSpends (D.judge feeder.old) (state_of (F.shelf files.old) self.old) result (F.shelf files.old) (F.shelf files.new) self.old self.new }
         ensures lower { self.old.stop ≡ None → IfOk result (λ v. FedBy (D.judge feeder.old) v (F.shelf files.old) self.old (F.shelf files.new) self.new) }
         ensures stops { self.old.stop ≡ None → Stops result (outside (F.shelf files.old) (F.faults files.old) (T.faults tell.old) (T.loan tell.old)) (outside (F.shelf files.new) (F.faults files.new) (T.faults tell.new) (T.loan tell.new)) self.new.stop }
         ensures progress { Progress self.old self.new }
@@ -188,6 +193,7 @@ impl Engine {
         requires sound { self.old.stop ≡ None → Sound self.old }
         requires owns { Owns (F.shelf files.old) self.old }
         ensures reads { self.old.stop ≡ None → Reads (F.shelf files.old) (spec_sign code (state_of (F.shelf files.old) self.old)) result (state_of (F.shelf files.new) self.new) }
+        ensures spends { self.old.stop ≡ None → Spends (spec_sign code (state_of (F.shelf files.old) self.old)) result (F.shelf files.old) (F.shelf files.new) self.old self.new }
         ensures lower { self.old.stop ≡ None → OnOk result (Shrinks 0 (F.shelf files.old) self.old (F.shelf files.new) self.new) }
         ensures stops { self.old.stop ≡ None → Stops result (outside (F.shelf files.old) (F.faults files.old) (T.faults tell.old) (T.loan tell.old)) (outside (F.shelf files.new) (F.faults files.new) (T.faults tell.new) (T.loan tell.new)) self.new.stop }
         ensures progress { Progress self.old self.new }
@@ -446,6 +452,7 @@ impl Engine {
         requires owns { Owns (F.shelf files.old) self.old }
         requires short { (texts : Table) → D.judge feeder.old texts [] ≡ TooShort }
         ensures feeds { FeedsTold (D.judge feeder.old) (state_of (F.shelf files.old) self.old) (F.shelf files.old) result self.new.names (state_of (F.shelf files.new) self.new) }
+        ensures spends { FedSpends (D.judge feeder.old) (state_of (F.shelf files.old) self.old) result (F.shelf files.old) (F.shelf files.new) self.old self.new }
         ensures runs { Runs result self.old self.new (files_at (F.shelf files.old) (F.faults files.old)) (files_at (F.shelf files.new) (F.faults files.new)) }
         ensures lower { IfOk result (λ v. FedBy (D.judge feeder.old) v (F.shelf files.old) self.old (F.shelf files.new) self.new) }
     {

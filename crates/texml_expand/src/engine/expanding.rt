@@ -24,6 +24,7 @@ ghost use Rattle.texml_expand.specs.declared.engine.expanding.TheConstants.{DEEP
 ghost use Rattle.texml_expand.specs.Machine.{machine_rest};
 ghost use Rattle.texml_expand.specs.Scanning.{Turned, MayGive};
 ghost use Rattle.texml_expand.specs.Held.{state_of, world_in, Sound, Kept, Progress, IsAtLimit, ok_at, read_at, ReadWithin, Owns, Holding, SameFiles, Shrinks, Begun};
+ghost use Rattle.texml_expand.specs.Spending.{SpendsBy};
 ghost use Rattle.texml_expand.specs.Contract.{Local, AnswersKept, Stops, outside, files_at, stop_after};
 ghost use Rattle.texml_expand.specs.Hearing.{hears, hears_part, Meets, FollowsTold};
 ghost use Rattle.texml_expand.specs.Doing.{Does, Gets};
@@ -117,6 +118,7 @@ impl Engine {
     /// meaning, and with the faults of `expand_once`. `Limit` where one expansion too many would begin.
     /// `TellFailed` only where the count of faults of `tell` rose in this call, `NoMemory` where memory was refused; the
     /// records told until then are the first of those that would be told. And the stop that is kept.
+    #[inline(always)]
     pub fn fetch<F: Files, T: Teller>(
         &mut self,
         files: &mut F,
@@ -126,6 +128,7 @@ impl Engine {
         requires owns { Owns (F.shelf files.old) self.old }
         ensures follows { self.old.stop ≡ None → FollowsTold (hears T.wanting T.heard) (hears_part T.wanting T.part) (F.shelf files.old) (λ n. spec_fetch n (state_of (F.shelf files.old) self.old))
             (ok_at (option_map (token_at self.new.names)) result) (state_of (F.shelf files.new) self.new) tell.old tell.new }
+        ensures spends { self.old.stop ≡ None → SpendsBy (λ n. spec_fetch n (state_of (F.shelf files.old) self.old)) (ok_at (option_map (token_at self.new.names)) result) (F.shelf files.old) (F.shelf files.new) self.old self.new }
         ensures stops { self.old.stop ≡ None → Stops result (outside (F.shelf files.old) (F.faults files.old) (T.faults tell.old) (T.loan tell.old)) (outside (F.shelf files.new) (F.faults files.new) (T.faults tell.new) (T.loan tell.new)) self.new.stop }
         ensures lower { self.old.stop ≡ None → IfOk result (λ o. Shrinks (length (option_to_list o)) (F.shelf files.old) self.old (F.shelf files.new) self.new) }
         ensures progress { Progress self.old self.new }
@@ -157,6 +160,7 @@ impl Engine {
         requires owns { Owns (F.shelf files.old) self.old }
         ensures follows { self.old.stop ≡ None → FollowsTold (hears T.wanting T.heard) (hears_part T.wanting T.part) (F.shelf files.old) (λ n. spec_look n (state_of (F.shelf files.old) self.old))
             (ok_at (option_map (looked_at_by self.new.names)) result) (state_of (F.shelf files.new) self.new) tell.old tell.new }
+        ensures spends { self.old.stop ≡ None → SpendsBy (λ n. spec_look n (state_of (F.shelf files.old) self.old)) (ok_at (option_map (looked_at_by self.new.names)) result) (F.shelf files.old) (F.shelf files.new) self.old self.new }
         ensures stops { self.old.stop ≡ None → Stops result (outside (F.shelf files.old) (F.faults files.old) (T.faults tell.old) (T.loan tell.old)) (outside (F.shelf files.new) (F.faults files.new) (T.faults tell.new) (T.loan tell.new)) self.new.stop }
         ensures lower { self.old.stop ≡ None → IfOk result (λ o. Shrinks (length (option_to_list o)) (F.shelf files.old) self.old (F.shelf files.new) self.new) }
         ensures progress { Progress self.old self.new }
@@ -194,6 +198,7 @@ impl Engine {
         requires expandable { self.old.stop ≡ None → IsSome (expandable (meaning_of (state_of (F.shelf files.old) self.old).world (token_at self.old.names token))) }
         ensures follows { self.old.stop ≡ None → FollowsTold (hears T.wanting T.heard) (hears_part T.wanting T.part) (F.shelf files.old)
             (λ n. spec_expand_once (token_at self.old.names token) n (state_of (F.shelf files.old) self.old)) result (state_of (F.shelf files.new) self.new) tell.old tell.new }
+        ensures spends { self.old.stop ≡ None → SpendsBy (λ n. spec_expand_once (token_at self.old.names token) n (state_of (F.shelf files.old) self.old)) result (F.shelf files.old) (F.shelf files.new) self.old self.new }
         ensures stops { self.old.stop ≡ None → Stops result (outside (F.shelf files.old) (F.faults files.old) (T.faults tell.old) (T.loan tell.old)) (outside (F.shelf files.new) (F.faults files.new) (T.faults tell.new) (T.loan tell.new)) self.new.stop }
         ensures begins { self.old.stop ≡ None → OnOk result (Begun self.old self.new) }
         ensures progress { Progress self.old self.new }
@@ -214,6 +219,7 @@ impl Engine {
     }
 
     // Takes the front.
+    #[inline(always)]
     pub(super) fn front<F: Files>(&mut self, files: &mut F) -> Result<Front, Stop>
         requires running { self.old.stop ≡ None }
         requires sound { Sound self.old }
@@ -231,6 +237,7 @@ impl Engine {
     }
 
     // What a token that was taken is.
+    #[inline(always)]
     fn judge(&mut self, read: Read) -> Result<Front, Stop>
         requires running { self.old.stop ≡ None }
         requires sound { Sound self.old }
@@ -248,6 +255,9 @@ impl Engine {
         if read.frozen {
             return Ok(Front::Plain(read));
         }
+        if let Token::Char(_, _) = read.token {
+            return Ok(Front::Plain(read));
+        }
         let meaning = match self.meaning(read.token) {
             Ok(meaning) => meaning,
             Err(_) => return Err(self.no_memory()),
@@ -263,6 +273,7 @@ impl Engine {
 
     // The next token that isn't expanded.
     #[cycle(expanding)]
+    #[inline(always)]
     pub(super) fn fetch_on<F: Files, T: Teller>(
         &mut self,
         files: &mut F,
@@ -644,6 +655,7 @@ impl Engine {
 
     // The next token, as it stands or expanded, and what it counts as.
     #[cycle(expanding)]
+    #[inline(always)]
     pub(super) fn next_looked<F: Files, T: Teller>(
         &mut self,
         files: &mut F,
@@ -672,6 +684,7 @@ impl Engine {
     }
 
     // What a token that was fetched counts as.
+    #[inline(always)]
     fn counted(&mut self, read: Read) -> Result<Option<Looked>, Stop>
         requires running { self.old.stop ≡ None }
         requires sound { Sound self.old }
@@ -696,6 +709,7 @@ impl Engine {
     }
 
     // What a token that was taken counts as.
+    #[inline(always)]
     pub(super) fn counts_as(&self, read: Read) -> Result<Token, AllocError>
         requires sound { Sound self.now }
         requires token { TokenWithin (length self.now.names) read.token }

@@ -17,6 +17,7 @@ ghost use Rattle.texml_expand.specs.Machine.{scanned_as, HasValue};
 ghost use Rattle.texml_expand.specs.Scanning.{all_seen_at, SeenWithin};
 ghost use Rattle.std.specs.List.{All};
 ghost use Rattle.texml_expand.specs.Held.{state_of, Sound, Kept, Progress, IsAtLimit, ok_at, Owns, Holding, SameFiles, Shrinks, Puts};
+ghost use Rattle.texml_expand.specs.Spending.{SpendsBy};
 ghost use Rattle.texml_expand.specs.Contract.{Local, AnswersKept, Stops, outside, stop_after};
 ghost use Rattle.texml_expand.specs.Hearing.{hears, hears_part, FollowsTold};
 
@@ -52,6 +53,7 @@ impl Engine {
         requires sound { self.old.stop ≡ None → Sound self.old }
         requires owns { Owns (F.shelf files.old) self.old }
         ensures follows { self.old.stop ≡ None → FollowsTold (hears T.wanting T.heard) (hears_part T.wanting T.part) (F.shelf files.old) (λ n. spec_read_int n (state_of (F.shelf files.old) self.old)) result (state_of (F.shelf files.new) self.new) tell.old tell.new }
+        ensures spends { self.old.stop ≡ None → SpendsBy (λ n. spec_read_int n (state_of (F.shelf files.old) self.old)) result (F.shelf files.old) (F.shelf files.new) self.old self.new }
         ensures stops { self.old.stop ≡ None → Stops result (outside (F.shelf files.old) (F.faults files.old) (T.faults tell.old) (T.loan tell.old)) (outside (F.shelf files.new) (F.faults files.new) (T.faults tell.new) (T.loan tell.new)) self.new.stop }
         ensures lower { self.old.stop ≡ None → OnOk result (Shrinks 0 (F.shelf files.old) self.old (F.shelf files.new) self.new) }
         ensures progress { Progress self.old self.new }
@@ -79,6 +81,7 @@ impl Engine {
         requires sound { self.old.stop ≡ None → Sound self.old }
         requires owns { Owns (F.shelf files.old) self.old }
         ensures follows { self.old.stop ≡ None → FollowsTold (hears T.wanting T.heard) (hears_part T.wanting T.part) (F.shelf files.old) (λ n. spec_read_dimen n (state_of (F.shelf files.old) self.old)) result (state_of (F.shelf files.new) self.new) tell.old tell.new }
+        ensures spends { self.old.stop ≡ None → SpendsBy (λ n. spec_read_dimen n (state_of (F.shelf files.old) self.old)) result (F.shelf files.old) (F.shelf files.new) self.old self.new }
         ensures stops { self.old.stop ≡ None → Stops result (outside (F.shelf files.old) (F.faults files.old) (T.faults tell.old) (T.loan tell.old)) (outside (F.shelf files.new) (F.faults files.new) (T.faults tell.new) (T.loan tell.new)) self.new.stop }
         ensures lower { self.old.stop ≡ None → OnOk result (Shrinks 0 (F.shelf files.old) self.old (F.shelf files.new) self.new) }
         ensures progress { Progress self.old self.new }
@@ -106,6 +109,7 @@ impl Engine {
         requires sound { self.old.stop ≡ None → Sound self.old }
         requires owns { Owns (F.shelf files.old) self.old }
         ensures follows { self.old.stop ≡ None → FollowsTold (hears T.wanting T.heard) (hears_part T.wanting T.part) (F.shelf files.old) (λ n. spec_read_glue n (state_of (F.shelf files.old) self.old)) result (state_of (F.shelf files.new) self.new) tell.old tell.new }
+        ensures spends { self.old.stop ≡ None → SpendsBy (λ n. spec_read_glue n (state_of (F.shelf files.old) self.old)) result (F.shelf files.old) (F.shelf files.new) self.old self.new }
         ensures stops { self.old.stop ≡ None → Stops result (outside (F.shelf files.old) (F.faults files.old) (T.faults tell.old) (T.loan tell.old)) (outside (F.shelf files.new) (F.faults files.new) (T.faults tell.new) (T.loan tell.new)) self.new.stop }
         ensures lower { self.old.stop ≡ None → OnOk result (Shrinks 0 (F.shelf files.old) self.old (F.shelf files.new) self.new) }
         ensures progress { Progress self.old self.new }
@@ -139,6 +143,7 @@ impl Engine {
         requires some { 1 ≤ length word.now }
         requires short { length word.now ≤ 255 }
         ensures follows { self.old.stop ≡ None → FollowsTold (hears T.wanting T.heard) (hears_part T.wanting T.part) (F.shelf files.old) (λ n. spec_read_keyword word.now n (state_of (F.shelf files.old) self.old)) result (state_of (F.shelf files.new) self.new) tell.old tell.new }
+        ensures spends { self.old.stop ≡ None → SpendsBy (λ n. spec_read_keyword word.now n (state_of (F.shelf files.old) self.old)) result (F.shelf files.old) (F.shelf files.new) self.old self.new }
         ensures stops { self.old.stop ≡ None → Stops result (outside (F.shelf files.old) (F.faults files.old) (T.faults tell.old) (T.loan tell.old)) (outside (F.shelf files.new) (F.faults files.new) (T.faults tell.new) (T.loan tell.new)) self.new.stop }
         ensures lower { self.old.stop ≡ None → OnOk result (Shrinks 0 (F.shelf files.old) self.old (F.shelf files.new) self.new) }
         ensures progress { Progress self.old self.new }
@@ -169,6 +174,7 @@ impl Engine {
         requires sound { self.old.stop ≡ None → Sound self.old }
         requires owns { Owns (F.shelf files.old) self.old }
         ensures follows { self.old.stop ≡ None → FollowsTold (hears T.wanting T.heard) (hears_part T.wanting T.part) (F.shelf files.old) (λ n. spec_read_index index n (state_of (F.shelf files.old) self.old)) result (state_of (F.shelf files.new) self.new) tell.old tell.new }
+        ensures spends { self.old.stop ≡ None → SpendsBy (λ n. spec_read_index index n (state_of (F.shelf files.old) self.old)) result (F.shelf files.old) (F.shelf files.new) self.old self.new }
         ensures stops { self.old.stop ≡ None → Stops result (outside (F.shelf files.old) (F.faults files.old) (T.faults tell.old) (T.loan tell.old)) (outside (F.shelf files.new) (F.faults files.new) (T.faults tell.new) (T.loan tell.new)) self.new.stop }
         ensures lower { self.old.stop ≡ None → OnOk result (Shrinks 0 (F.shelf files.old) self.old (F.shelf files.new) self.new) }
         ensures progress { Progress self.old self.new }
@@ -197,6 +203,7 @@ impl Engine {
         requires sound { self.old.stop ≡ None → Sound self.old }
         requires owns { Owns (F.shelf files.old) self.old }
         ensures follows { self.old.stop ≡ None → FollowsTold (hears T.wanting T.heard) (hears_part T.wanting T.part) (F.shelf files.old) (λ n. spec_read_key variable n (state_of (F.shelf files.old) self.old)) (ok_at (key_at self.new.names) result) (state_of (F.shelf files.new) self.new) tell.old tell.new }
+        ensures spends { self.old.stop ≡ None → SpendsBy (λ n. spec_read_key variable n (state_of (F.shelf files.old) self.old)) (ok_at (key_at self.new.names) result) (F.shelf files.old) (F.shelf files.new) self.old self.new }
         ensures stops { self.old.stop ≡ None → Stops result (outside (F.shelf files.old) (F.faults files.old) (T.faults tell.old) (T.loan tell.old)) (outside (F.shelf files.new) (F.faults files.new) (T.faults tell.new) (T.loan tell.new)) self.new.stop }
         ensures lower { self.old.stop ≡ None → OnOk result (Shrinks 0 (F.shelf files.old) self.old (F.shelf files.new) self.new) }
         ensures progress { Progress self.old self.new }

@@ -1,7 +1,8 @@
-use Rattle.std.proofs.Common.{Ok, Err, rules}
+use Rattle.std.proofs.Common.{Ok, Err}
 use Rattle.texml_scope.specs.Numbers.{key_at}
 use Rattle.texml_expand.specs.Contract.{outside}
 use Rattle.texml_expand.specs.Hearing.{hears, hears_part}
+use Rattle.texml_expand.proofs.Stopping.{passed_on}
 use Rattle.texml_assign.proofs.Readings.{lawful_plain}
 use Rattle.texml_assign.proofs.Doing.{does_then, does_stop, does_judge}
 use Rattle.texml_assign.specs.Arithmetic.{count_now, count_on}
@@ -13,7 +14,7 @@ returns-in_err-old g c =
     let old = c.args.engine.now in let mid = c.count_now.new.engine in let k = c.in_err-old.ensures in let e = c.in_err-old.field-0.0 in let key = key_at old.names c.args.key in
     let h = does_stop (hears g.T.Teller.wanting g.T.Teller.heard) (hears_part g.T.Teller.wanting g.T.Teller.part) (λ n. count_now key) (count_on c.args.global c.args.what key) (lawful_plain (count_now key) (plain_count_now key)) (lawful_count_on c.args.global c.args.what key) e old mid _ _ _ _ c.requires.sound
     (does_judge _ _ (count_now key) (plain_count_now key) (Err e) old mid (outside (g.F.Files.shelf c.args.files.now) (g.F.Files.faults c.args.files.now) (g.T.Teller.faults c.args.tell.now) (g.T.Teller.loan c.args.tell.now)) c.args.tell.now c.requires.owns k.is k.kept tt k.same) in
-    search (rules, h)
+    record { does = rw (passed_on c.from_residual.result c.in_err-old.field-0.0 c.from_residual.ensures) h }
 
 pub returns : goal.returns
 returns g c = record {

@@ -2,6 +2,7 @@ use Rattle.std.proofs.Common.{Ok, Err, ap, subst, ◌∙◌, rules}
 use Rattle.texml_expand.specs.Contract.{Local}
 use Rattle.texml_expand.specs.Hearing.{hears, hears_part}
 use Rattle.texml_expand.specs.Expand.{read_int}
+use Rattle.texml_expand.proofs.Stopping.{passed_on}
 use Rattle.texml_assign.proofs.Doing.{does_call, does_then, does_stop, does_judge, no_more}
 use Rattle.texml_assign.specs.Arithmetic.{fits, product}
 use Rattle.texml_assign.proofs.Quantities.{lawful_int, lawful_fits, plain_fits}
@@ -12,12 +13,12 @@ use Rattle.texml_assign.proofs.arithmetic.multiplied.Goals as goal
 pub returns-in_err-number-clause-does : goal.returns-in_err-number-clause-does
 returns-in_err-number-clause-does g c =
     let run = c.requires.running in let f = c.in_err-number.ensures in let old = c.args.engine.now in let mid = c.read_int.new.self in let a = c.args.old in
-    let s = does_call (hears g.T.Teller.wanting g.T.Teller.heard) (hears_part g.T.Teller.wanting g.T.Teller.part) read_int (λ z. z) (Err c.in_err-number.field-0.0) old mid _ _ _ _ (f.follows run) (f.stops run) (f.limit run) tt f.progress f.holds tt in
-    let h = does_stop _ _ read_int (λ b n. fits (product a b)) lawful_int (λ b. lawful_fits (product a b)) _ _ _ _ _ _ _ c.requires.sound s in search (rules, h)
+    let s = does_call (hears g.T.Teller.wanting g.T.Teller.heard) (hears_part g.T.Teller.wanting g.T.Teller.part) read_int (λ z. z) (Err c.in_err-number.field-0.0) old mid _ _ _ _ (f.follows run) (f.spends run) (f.stops run) (f.limit run) tt f.progress f.holds tt in
+    let h = does_stop _ _ read_int (λ b n. fits (product a b)) lawful_int (λ b. lawful_fits (product a b)) _ _ _ _ _ _ _ c.requires.sound s in rw (passed_on c.from_residual.result c.in_err-number.field-0.0 c.from_residual.ensures) h
 
 pub returns-clause-does : goal.returns-clause-does
 returns-clause-does g c =
     let run = c.requires.running in let f = c.in_ok-number.ensures in let old = c.args.engine.now in let mid = c.read_int.new.self in let a = c.args.old in let b = c.in_ok-number.number in let new = c.fits.new.engine in let k = c.fits.ensures in
-    let s = does_call (hears g.T.Teller.wanting g.T.Teller.heard) (hears_part g.T.Teller.wanting g.T.Teller.part) read_int (λ z. z) (Ok b) old mid _ _ _ _ (f.follows run) (f.stops run) tt (f.keeps run) f.progress f.holds (no_more (f.lower run)) in
+    let s = does_call (hears g.T.Teller.wanting g.T.Teller.heard) (hears_part g.T.Teller.wanting g.T.Teller.part) read_int (λ z. z) (Ok b) old mid _ _ _ _ (f.follows run) (f.spends run) (f.stops run) tt (f.keeps run) f.progress f.holds (no_more (f.lower run)) in
     does_then _ _ read_int (λ b n. fits (product a b)) lawful_int (λ b. lawful_fits (product a b)) b c.fits.result old mid new _ _ _ _ _ _ s
     (does_judge _ _ (fits (product a b)) (plain_fits (product a b)) c.fits.result mid new _ _ s.holds.owns (let w : FitsSigned w32 b = search rules in subst (λ r. Local (fits r) c.fits.result mid new) (c.product.ensures.is ∙ ap (product a) (to_z-of_z w32 b w)) k.fits) k.kept k.keeps k.same)

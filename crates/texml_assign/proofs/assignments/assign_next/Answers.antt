@@ -1,6 +1,6 @@
-use Rattle.std.proofs.Common.{rules}
 use Rattle.texml_scope.specs.Numbers.{key_at, value_at}
 use Rattle.texml_expand.specs.State.{change}
+use Rattle.texml_expand.proofs.Stopping.{passed_on}
 use Rattle.texml_assign.proofs.Parts.{plain_set}
 use Rattle.texml_assign.proofs.Doing.{does_then, does_stop, does_local}
 use Rattle.texml_assign.specs.Sets.{set}
@@ -11,7 +11,7 @@ use Rattle.texml_assign.proofs.assignments.assign_next.Goals as goal
 pub returns-in_err-value : goal.returns-in_err-value
 returns-in_err-value g c =
     let old = c.args.engine.now in
-    let h = does_stop _ _ (value_for (key_at old.names c.args.key)) (λ v n. change (set c.args.global (key_at old.names c.args.key) v)) (lawful_value (key_at old.names c.args.key)) (lawful_set c.args.global (key_at old.names c.args.key)) _ _ _ _ _ _ _ c.requires.sound c.in_err-value.ensures.does in search (rules, h)
+    let h = does_stop _ _ (value_for (key_at old.names c.args.key)) (λ v n. change (set c.args.global (key_at old.names c.args.key) v)) (lawful_value (key_at old.names c.args.key)) (lawful_set c.args.global (key_at old.names c.args.key)) _ _ _ _ _ _ _ c.requires.sound c.in_err-value.ensures.does in record { does = rw (passed_on c.from_residual.result c.in_err-value.field-0.0 c.from_residual.ensures) h }
 
 pub returns : goal.returns
 returns g c = record {

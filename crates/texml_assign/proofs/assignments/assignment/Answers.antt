@@ -1,5 +1,5 @@
-use Rattle.std.proofs.Common.{rules}
 use Rattle.texml_scope.specs.Numbers.{key_at}
+use Rattle.texml_expand.proofs.Stopping.{passed_on}
 use Rattle.texml_assign.proofs.Doing.{does_then, does_stop}
 use Rattle.texml_assign.specs.Assignments.{assign_to}
 use Rattle.texml_assign.specs.Targets.{target_key}
@@ -9,7 +9,7 @@ use Rattle.texml_assign.proofs.assignments.assignment.Goals as goal
 pub returns-in_err-key : goal.returns-in_err-key
 returns-in_err-key g c =
     let old = c.args.engine.now in
-    let h = does_stop _ _ (target_key c.args.target) (assign_to c.args.global) (lawful_target c.args.target) (lawful_assign_to c.args.global) _ _ _ _ _ _ _ c.requires.sound c.in_err-key.ensures.does in search (rules, h)
+    let h = does_stop _ _ (target_key c.args.target) (assign_to c.args.global) (lawful_target c.args.target) (lawful_assign_to c.args.global) _ _ _ _ _ _ _ c.requires.sound c.in_err-key.ensures.does in record { does = rw (passed_on c.from_residual.result c.in_err-key.field-0.0 c.from_residual.ensures) h }
 
 pub returns : goal.returns
 returns g c = record {

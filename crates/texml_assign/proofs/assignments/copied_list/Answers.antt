@@ -1,7 +1,8 @@
-use Rattle.std.proofs.Common.{sym, ap, rules}
+use Rattle.std.proofs.Common.{sym, ap}
 use Rattle.texml_scope.specs.Numbers.{key_at, value_at}
 use Rattle.texml_expand.specs.State.{Done, nothing}
 use Rattle.texml_expand.specs.Held.{state_of}
+use Rattle.texml_expand.proofs.Stopping.{passed_on}
 use Rattle.texml_assign.proofs.Readings.{lawful_plain}
 use Rattle.texml_assign.proofs.Doing.{does_then, does_stop, does_now, does_out}
 use Rattle.texml_assign.specs.Assignments.{value_now}
@@ -11,7 +12,7 @@ use Rattle.texml_assign.proofs.assignments.copied_list.Goals as goal
 
 pub returns-in_err-key-clause-does : goal.returns-in_err-key-clause-does
 returns-in_err-key-clause-does g c =
-    let h = does_stop _ _ (target_key c.args.target) (λ k n. value_now k) (lawful_target c.args.target) (λ k. lawful_plain (value_now k) (plain_value_now k)) _ _ _ _ _ _ _ c.requires.sound c.in_err-key.ensures.does in search (rules, h)
+    let h = does_stop _ _ (target_key c.args.target) (λ k n. value_now k) (lawful_target c.args.target) (λ k. lawful_plain (value_now k) (plain_value_now k)) _ _ _ _ _ _ _ c.requires.sound c.in_err-key.ensures.does in rw (passed_on c.from_residual.result c.in_err-key.field-0.0 c.from_residual.ensures) h
 
 pub returns-in-Ok-clause-does : goal.returns-in-Ok-clause-does
 returns-in-Ok-clause-does g c =

@@ -1,7 +1,8 @@
-use Rattle.std.proofs.Common.{Ok, Err, refl, rules}
+use Rattle.std.proofs.Common.{Ok, Err, refl}
 use Rattle.texml_scope.specs.declared.values.ValueOf.TheVariants as values
 use Rattle.texml_expand.specs.Hearing.{hears, hears_part}
 use Rattle.texml_expand.specs.Expand.{read_glue}
+use Rattle.texml_expand.proofs.Stopping.{passed_on}
 use Rattle.texml_assign.proofs.Readings.{lawful_plain, plain_give}
 use Rattle.texml_assign.proofs.Doing.{does_call, does_then, does_stop, does_now, no_more}
 use Rattle.texml_assign.proofs.Quantities.{lawful_glue, glue_value}
@@ -10,12 +11,12 @@ use Rattle.texml_assign.proofs.assignments.next_glue.Goals as goal
 pub returns-in_err-glue-clause-does : goal.returns-in_err-glue-clause-does
 returns-in_err-glue-clause-does g c =
     let run = c.requires.running in let f = c.in_err-glue.ensures in let mid = c.read_glue.new.self in
-    let s = does_call (hears g.T.Teller.wanting g.T.Teller.heard) (hears_part g.T.Teller.wanting g.T.Teller.part) read_glue (λ z. z) (Err c.in_err-glue.field-0.0) c.args.engine.now mid _ _ _ _ (f.follows run) (f.stops run) (f.limit run) tt f.progress f.holds tt in
-    let h = does_stop _ _ read_glue (λ z n. glue_value z) lawful_glue (λ z. lawful_plain (glue_value z) (plain_give _)) _ _ _ _ _ _ _ c.requires.sound s in search (rules, h)
+    let s = does_call (hears g.T.Teller.wanting g.T.Teller.heard) (hears_part g.T.Teller.wanting g.T.Teller.part) read_glue (λ z. z) (Err c.in_err-glue.field-0.0) c.args.engine.now mid _ _ _ _ (f.follows run) (f.spends run) (f.stops run) (f.limit run) tt f.progress f.holds tt in
+    let h = does_stop _ _ read_glue (λ z n. glue_value z) lawful_glue (λ z. lawful_plain (glue_value z) (plain_give _)) _ _ _ _ _ _ _ c.requires.sound s in rw (passed_on c.from_residual.result c.in_err-glue.field-0.0 c.from_residual.ensures) h
 
 pub returns-clause-does : goal.returns-clause-does
 returns-clause-does g c =
     let run = c.requires.running in let f = c.in_ok-glue.ensures in let mid = c.read_glue.new.self in let z = c.in_ok-glue.glue in
-    let s = does_call (hears g.T.Teller.wanting g.T.Teller.heard) (hears_part g.T.Teller.wanting g.T.Teller.part) read_glue (λ z. z) (Ok z) c.args.engine.now mid _ _ _ _ (f.follows run) (f.stops run) tt (f.keeps run) f.progress f.holds (no_more (f.lower run)) in
+    let s = does_call (hears g.T.Teller.wanting g.T.Teller.heard) (hears_part g.T.Teller.wanting g.T.Teller.part) read_glue (λ z. z) (Ok z) c.args.engine.now mid _ _ _ _ (f.follows run) (f.spends run) (f.stops run) tt (f.keeps run) f.progress f.holds (no_more (f.lower run)) in
     (does_then _ _ read_glue (λ z n. glue_value z) lawful_glue (λ z. lawful_plain (glue_value z) (plain_give _)) z _ _ mid mid _ _ _ _ _ _ s
     (does_now _ _ (glue_value z) (plain_give _) (values.Glue z) mid _ _ s.keeps.sound s.holds.owns s.stops.kept (λ shelf. refl)))

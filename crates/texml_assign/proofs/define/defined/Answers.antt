@@ -6,6 +6,7 @@ use Rattle.texml_expand.specs.State.{Done, nothing}
 use Rattle.texml_expand.specs.Held.{state_of}
 use Rattle.texml_assign.specs.Parameters.{head_at}
 use Rattle.texml_assign.specs.Define.{parameter_text, next_body, macro_of}
+use Rattle.texml_expand.proofs.Stopping.{passed_on}
 use Rattle.texml_assign.proofs.Readings.{lawful_plain, plain_give}
 use Rattle.texml_assign.proofs.Doing.{does_then, does_stop, does_now, does_out}
 use Rattle.texml_assign.proofs.Commands.{plain_parameter_text, lawful_next_body, body_taken, lawful_body_taken, head_taken, lawful_head_taken}
@@ -16,7 +17,7 @@ pub returns-in_err-head-clause-does : goal.returns-in_err-head-clause-does
 returns-in_err-head-clause-does g c =
     let ex = c.args.expanding in let long = c.args.long in
     let h = does_stop _ _ (λ n. parameter_text) (head_taken ex long) (lawful_plain parameter_text plain_parameter_text) (lawful_head_taken ex long) _ _ _ _ _ _ _ c.requires.sound c.in_err-head.ensures.does in
-    search (rules, h)
+    rw (passed_on c.from_residual.result c.in_err-head.field-0.0 c.from_residual.ensures) h
 
 pub returns-in_err-body-clause-does : goal.returns-in_err-body-clause-does
 returns-in_err-body-clause-does g c =

@@ -1,4 +1,4 @@
-use Rattle.std.proofs.Common.{subst, rules}
+use Rattle.std.proofs.Common.{subst}
 use Rattle.texml_scope.specs.Texts.{Key, Meaning}
 use Rattle.texml_scope.specs.Numbers.{key_at, meaning_at}
 use Rattle.texml_expand.specs.State.{change}
@@ -7,6 +7,7 @@ use Rattle.texml_assign.specs.Loop.{ByDepth}
 use Rattle.texml_assign.specs.Operands.{next_key}
 use Rattle.texml_assign.specs.Operands.{meant}
 use Rattle.texml_assign.specs.Sets.{assign}
+use Rattle.texml_expand.proofs.Stopping.{passed_on}
 use Rattle.texml_assign.proofs.Readings.{Lawful, lawful_plain}
 use Rattle.texml_assign.proofs.Doing.{does_then, does_stop, does_local}
 use Rattle.texml_assign.proofs.Worlds.{key_stays}
@@ -17,7 +18,7 @@ pub returns-in_err-key : goal.returns-in_err-key
 returns-in_err-key g c =
     let M : ByDepth Meaning = meant in let L : Lawful M = lawful_meant in
     let h = does_stop _ _ (λ n. next_key) (key_taken c.args.global M) (lawful_plain next_key plain_next_key) (lawful_key_taken c.args.global M L) _ _ _ _ _ _ _ c.requires.sound c.in_err-key.ensures.does in
-    search (rules, h)
+    record { does = rw (passed_on c.from_residual.result c.in_err-key.field-0.0 c.from_residual.ensures) h }
 
 pub returns-in_err-meaning : goal.returns-in_err-meaning
 returns-in_err-meaning g c =
@@ -25,7 +26,7 @@ returns-in_err-meaning g c =
     let f = c.in_ok-key.ensures.does in let k = key_at c.next_key.new.engine.names c.in_ok-key.key in
     let h = does_then _ _ (λ n. next_key) (key_taken c.args.global M) (lawful_plain next_key plain_next_key) (lawful_key_taken c.args.global M L) k _ _ _ _ _ _ _ _ _ _ f
     (does_stop _ _ M (λ m n. change (assign c.args.global k m)) L (λ m. lawful_plain (change (assign c.args.global k m)) (plain_assign c.args.global k m)) _ _ _ _ _ _ _ f.keeps.sound c.in_err-meaning.ensures.does) in
-    search (rules, h)
+    record { does = rw (passed_on c.from_residual-in_err-meaning.result c.in_err-meaning.field-0.0 c.from_residual-in_err-meaning.ensures) h }
 
 pub returns : goal.returns
 returns g c = record {

@@ -1,5 +1,5 @@
 use Rattle.texml_expand.specs.Least.{by_least}
-use Rattle.texml_expand.proofs.Fed.{feeds_quiet}
+use Rattle.texml_expand.proofs.Fed.{feeds_quiet, feeds_spends}
 use Rattle.texml_assign.specs.Parameters.{text_of, head_at}
 use Rattle.texml_assign.specs.TextFeeding.{judge_text}
 use Rattle.texml_assign.proofs.Doing.{does_reads}
@@ -15,6 +15,7 @@ returns-clause-does g c =
     let old = c.args.engine.now in let new = c.read_by.new.self in let a = c.read_by.ensures in let run = c.requires.running in let r = c.read_by.result in
     does_reads _ _ (by_least text_of) (plain_by_least text_of) (head_at new.names) r old new _ _ _ _ a.tell
     (λ told. feeds_quiet text_of head_at (judge_text c.new-text.result) (text_agrees c.new-text.result c.new-text.ensures) _ r new.names _ (a.feeds run told))
+    (feeds_spends text_of head_at (judge_text c.new-text.result) (text_agrees c.new-text.result c.new-text.ensures) new.names r _ _ old new (a.spends run))
     (a.stops run) (a.limit run) (a.keeps run) a.progress a.holds (fed_less (judge_text c.new-text.result) r _ _ _ _ (a.lower run))
 
 pub returns-clause-within : goal.returns-clause-within

@@ -1,8 +1,8 @@
-use Rattle.std.proofs.Common.{rules}
 use Rattle.texml_token.specs.Numbers.{token_at}
 use Rattle.texml_expand.specs.State.{change}
 use Rattle.texml_assign.specs.Operands.{next_token}
 use Rattle.texml_assign.specs.Sets.{read_after}
+use Rattle.texml_expand.proofs.Stopping.{passed_on}
 use Rattle.texml_assign.proofs.Readings.{sure_change, lawful_plain}
 use Rattle.texml_assign.proofs.Doing.{does_stop_sure, does_put}
 use Rattle.texml_assign.proofs.Commands.{plain_next}
@@ -10,7 +10,7 @@ use Rattle.texml_assign.proofs.executing.after_group.Goals as goal
 
 pub returns-in_err-token : goal.returns-in_err-token
 returns-in_err-token g c =
-    let h = does_stop_sure _ _ (λ n. next_token) (λ t n. change (read_after t)) (lawful_plain next_token plain_next) (λ t. sure_change (read_after t)) _ _ _ _ _ _ _ c.requires.sound c.in_err-token.ensures.does in search (rules, h)
+    let h = does_stop_sure _ _ (λ n. next_token) (λ t n. change (read_after t)) (lawful_plain next_token plain_next) (λ t. sure_change (read_after t)) _ _ _ _ _ _ _ c.requires.sound c.in_err-token.ensures.does in record { does = rw (passed_on c.from_residual.result c.in_err-token.field-0.0 c.from_residual.ensures) h }
 
 pub returns : goal.returns
 returns g c = record {

@@ -1,4 +1,4 @@
-use Rattle.std.proofs.Common.{Err, refl, sym, ◌∙◌, rules, arith}
+use Rattle.std.proofs.Common.{Err, refl, sym, ◌∙◌, arith}
 use Rattle.std.specs.Option.{option_map}
 use Rattle.texml_token.specs.Numbers.{token_at}
 use Rattle.texml_token.specs.declared.fault_code.TheConstants.{FILE_ENDED, BAD_PREFIX}
@@ -8,6 +8,7 @@ use Rattle.texml_assign.specs.declared.table.Command.{Command as CommandWord}
 use Rattle.texml_assign.specs.declared.table.Prefixes.{Prefixes}
 use Rattle.texml_assign.specs.Loop.{On, Over}
 use Rattle.texml_assign.specs.Execute.{prefix_turn, prefix_loop}
+use Rattle.texml_expand.proofs.Stopping.{passed_on}
 use Rattle.texml_assign.proofs.Doing.{does_call, does_now, does_out, does_fault, goes_stops, goes_ends, goes_turn_stops, goes_over, goes_on, no_more}
 use Rattle.texml_assign.proofs.Commands.{plain_prefix_turn, prefix_laws}
 use Rattle.texml_assign.proofs.executing.prefixed.Goals as goal
@@ -15,14 +16,14 @@ use Rattle.texml_assign.proofs.executing.prefixed.Goals as goal
 pub returns-in_err-token : goal.returns-in_err-token
 returns-in_err-token g c =
     let i = c.tokens.invariant in let run = i.going.running in let f = c.in_err-token.ensures in let mid = c.fetch.new.self in
-    let s = does_call (hears g.T.Teller.wanting g.T.Teller.heard) (hears_part g.T.Teller.wanting g.T.Teller.part) fetch (option_map (token_at mid.names)) (Err c.in_err-token.field-0.0) c.tokens.engine mid _ _ _ _ (f.follows run) (f.stops run) (f.limit run) tt f.progress f.holds tt in
-    let h = goes_stops _ _ prefix_loop prefix_laws _ c.args.first c.tokens.prefixes _ _ _ _ _ _ _ _ _ i.going s in search (rules, h)
+    let s = does_call (hears g.T.Teller.wanting g.T.Teller.heard) (hears_part g.T.Teller.wanting g.T.Teller.part) fetch (option_map (token_at mid.names)) (Err c.in_err-token.field-0.0) c.tokens.engine mid _ _ _ _ (f.follows run) (f.spends run) (f.stops run) (f.limit run) tt f.progress f.holds tt in
+    let h = goes_stops _ _ prefix_loop prefix_laws _ c.args.first c.tokens.prefixes _ _ _ _ _ _ _ _ _ i.going s in record { does = rw (passed_on c.from_residual.result c.in_err-token.field-0.0 c.from_residual.ensures) h }
 
 pub returns-in-None : goal.returns-in-None
 returns-in-None g c = record {
   does =
       let i = c.tokens.invariant in let run = i.going.running in let f = c.in_ok-token.ensures in let mid = c.fetch.new.self in
-      let s = rw c.in-None.is at (does_call (hears g.T.Teller.wanting g.T.Teller.heard) (hears_part g.T.Teller.wanting g.T.Teller.part) fetch (option_map (token_at mid.names)) _ c.tokens.engine mid _ _ _ _ (f.follows run) (f.stops run) tt (f.keeps run) f.progress f.holds (no_more (f.lower run))) in
+      let s = rw c.in-None.is at (does_call (hears g.T.Teller.wanting g.T.Teller.heard) (hears_part g.T.Teller.wanting g.T.Teller.part) fetch (option_map (token_at mid.names)) _ c.tokens.engine mid _ _ _ _ (f.follows run) (f.spends run) (f.stops run) tt (f.keeps run) f.progress f.holds (no_more (f.lower run))) in
       goes_ends _ _ prefix_loop prefix_laws _ c.args.first c.tokens.prefixes _ _ mid c.bare_fault.new.self _ _ _ _ _ _ _ _ i.going s
       (does_fault _ _ (prefix_loop.end c.tokens.prefixes) (prefix_laws.end c.tokens.prefixes) FILE_ENDED c.bare_fault.result mid c.bare_fault.new.self _ _ s.holds.owns (λ shelf. refl) c.bare_fault.ensures.is c.bare_fault.ensures.kept);
 }
@@ -31,7 +32,7 @@ pub returns-in-Ok-Command : goal.returns-in-Ok-Command
 returns-in-Ok-Command g c = record {
   does =
       let i = c.tokens.invariant in let run = i.going.running in let f = c.in_ok-token.ensures in let mid = c.fetch.new.self in
-      let s = rw c.in-Some.is at (does_call (hears g.T.Teller.wanting g.T.Teller.heard) (hears_part g.T.Teller.wanting g.T.Teller.part) fetch (option_map (token_at mid.names)) _ c.tokens.engine mid _ _ _ _ (f.follows run) (f.stops run) tt (f.keeps run) f.progress f.holds (no_more (f.lower run))) in
+      let s = rw c.in-Some.is at (does_call (hears g.T.Teller.wanting g.T.Teller.heard) (hears_part g.T.Teller.wanting g.T.Teller.part) fetch (option_map (token_at mid.names)) _ c.tokens.engine mid _ _ _ _ (f.follows run) (f.spends run) (f.stops run) tt (f.keeps run) f.progress f.holds (no_more (f.lower run))) in
       let t = token_at mid.names c.in-Some.token in let p = c.tokens.prefixes in
       let v : Prefixes × CommandWord = (p, c.in-Ok-Command.command) in
       goes_over _ _ prefix_loop prefix_laws t v c.args.first p _ _ mid mid _ _ _ _ _ _ _ _ i.going s
@@ -42,7 +43,7 @@ pub returns-in-Ok-Misfit : goal.returns-in-Ok-Misfit
 returns-in-Ok-Misfit g c = record {
   does =
       let i = c.tokens.invariant in let run = i.going.running in let f = c.in_ok-token.ensures in let mid = c.fetch.new.self in
-      let s = rw c.in-Some.is at (does_call (hears g.T.Teller.wanting g.T.Teller.heard) (hears_part g.T.Teller.wanting g.T.Teller.part) fetch (option_map (token_at mid.names)) _ c.tokens.engine mid _ _ _ _ (f.follows run) (f.stops run) tt (f.keeps run) f.progress f.holds (no_more (f.lower run))) in
+      let s = rw c.in-Some.is at (does_call (hears g.T.Teller.wanting g.T.Teller.heard) (hears_part g.T.Teller.wanting g.T.Teller.part) fetch (option_map (token_at mid.names)) _ c.tokens.engine mid _ _ _ _ (f.follows run) (f.spends run) (f.stops run) tt (f.keeps run) f.progress f.holds (no_more (f.lower run))) in
       let t = token_at mid.names c.in-Some.token in let p = c.tokens.prefixes in
       goes_turn_stops _ _ prefix_loop prefix_laws t _ c.args.first p _ _ mid c.bare_fault-in-Ok-Misfit.new.self _ _ _ _ _ _ _ _ i.going s
       (does_fault _ _ (λ s. prefix_turn p t 0 s) (plain_prefix_turn p t) BAD_PREFIX c.bare_fault-in-Ok-Misfit.result mid c.bare_fault-in-Ok-Misfit.new.self _ _ s.holds.owns (rw c.in-Ok-Misfit.field-0-is at c.in-Ok-Misfit.ensures) c.bare_fault-in-Ok-Misfit.ensures.is c.bare_fault-in-Ok-Misfit.ensures.kept);
@@ -52,7 +53,7 @@ pub returns-in-Err : goal.returns-in-Err
 returns-in-Err g c = record {
   does =
       let i = c.tokens.invariant in let run = i.going.running in let f = c.in_ok-token.ensures in let mid = c.fetch.new.self in
-      let s = rw c.in-Some.is at (does_call (hears g.T.Teller.wanting g.T.Teller.heard) (hears_part g.T.Teller.wanting g.T.Teller.part) fetch (option_map (token_at mid.names)) _ c.tokens.engine mid _ _ _ _ (f.follows run) (f.stops run) tt (f.keeps run) f.progress f.holds (no_more (f.lower run))) in
+      let s = rw c.in-Some.is at (does_call (hears g.T.Teller.wanting g.T.Teller.heard) (hears_part g.T.Teller.wanting g.T.Teller.part) fetch (option_map (token_at mid.names)) _ c.tokens.engine mid _ _ _ _ (f.follows run) (f.spends run) (f.stops run) tt (f.keeps run) f.progress f.holds (no_more (f.lower run))) in
       let t = token_at mid.names c.in-Some.token in let p = c.tokens.prefixes in
       goes_turn_stops _ _ prefix_loop prefix_laws t _ c.args.first p _ _ mid c.no_memory.new.self _ _ _ _ _ _ _ _ i.going s
       (does_out _ _ (prefix_loop.turn p t) (prefix_laws.turn p t) c.no_memory.result mid c.no_memory.new.self _ _ s.keeps.sound s.holds.owns c.no_memory.ensures.is c.no_memory.ensures.kept);
@@ -76,7 +77,7 @@ tokens-smaller g c =
 pub rounds-preserved : goal.rounds-preserved
 rounds-preserved g c =
     let i = c.tokens.invariant in let run = i.going.running in let f = c.in_ok-token.ensures in let mid = c.fetch.new.self in
-    let s = rw c.in-Some.is at (does_call (hears g.T.Teller.wanting g.T.Teller.heard) (hears_part g.T.Teller.wanting g.T.Teller.part) fetch (option_map (token_at mid.names)) _ c.tokens.engine mid _ _ _ _ (f.follows run) (f.stops run) tt (f.keeps run) f.progress f.holds (no_more (f.lower run))) in
+    let s = rw c.in-Some.is at (does_call (hears g.T.Teller.wanting g.T.Teller.heard) (hears_part g.T.Teller.wanting g.T.Teller.part) fetch (option_map (token_at mid.names)) _ c.tokens.engine mid _ _ _ _ (f.follows run) (f.spends run) (f.stops run) tt (f.keeps run) f.progress f.holds (no_more (f.lower run))) in
     let t = token_at mid.names c.in-Some.token in let p = c.tokens.prefixes in
     record {
       going = goes_on _ _ prefix_loop prefix_laws t c.args.first p c.in-Ok-Prefixes.more _ _ mid mid _ _ _ _ _ _ _ _ i.going s
@@ -86,7 +87,7 @@ rounds-preserved g c =
 pub tokens-preserved : goal.tokens-preserved
 tokens-preserved g c =
     let i = c.tokens.invariant in let run = i.going.running in let f = c.in_ok-token.ensures in let mid = c.fetch.new.self in
-    let s = rw c.in-Some.is at (does_call (hears g.T.Teller.wanting g.T.Teller.heard) (hears_part g.T.Teller.wanting g.T.Teller.part) fetch (option_map (token_at mid.names)) _ c.tokens.engine mid _ _ _ _ (f.follows run) (f.stops run) tt (f.keeps run) f.progress f.holds (no_more (f.lower run))) in
+    let s = rw c.in-Some.is at (does_call (hears g.T.Teller.wanting g.T.Teller.heard) (hears_part g.T.Teller.wanting g.T.Teller.part) fetch (option_map (token_at mid.names)) _ c.tokens.engine mid _ _ _ _ (f.follows run) (f.spends run) (f.stops run) tt (f.keeps run) f.progress f.holds (no_more (f.lower run))) in
     let t = token_at mid.names c.in-Some.token in let p = c.tokens.prefixes in
     let l = rw c.in-Some.is at (f.lower run) in
     record {

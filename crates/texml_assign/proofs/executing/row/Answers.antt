@@ -43,3 +43,18 @@ returns-in_ok-end_group-in-EndGroup g c = record {
       let b = c.in_ok-end_group-in-EndGroup.ensures in
       rw c.in-EndGroup.is (does_local _ _ (end_kind Begin) (plain_end Begin) (Ok tt) c.args.engine.now c.end_group.new.engine _ _ c.requires.owns b.ends b.kept b.keeps b.advances b.files b.puts);
 }
+
+pub returns-in_ok-let_to-in-Let : goal.returns-in_ok-let_to-in-Let
+returns-in_ok-let_to-in-Let g c = record { does = rw c.in-Let.is c.in_ok-let_to-in-Let.ensures.does }
+
+pub returns-in_ok-change_case-in-ChangeCase : goal.returns-in_ok-change_case-in-ChangeCase
+returns-in_ok-change_case-in-ChangeCase g c = record { does = rw c.in-ChangeCase.is c.in_ok-change_case-in-ChangeCase.ensures.does }
+
+pub returns-in_ok-assignment-in-Assign : goal.returns-in_ok-assignment-in-Assign
+returns-in_ok-assignment-in-Assign g c = record { does = rw c.in-Assign.is c.in_ok-assignment-in-Assign.ensures.does }
+
+pub returns-in_ok-short_name-in-Short : goal.returns-in_ok-short_name-in-Short
+returns-in_ok-short_name-in-Short g c = record { does = rw c.in-Short.is c.in_ok-short_name-in-Short.ensures.does }
+
+pub returns-in_ok-arithmetic-in-Arithmetic : goal.returns-in_ok-arithmetic-in-Arithmetic
+returns-in_ok-arithmetic-in-Arithmetic g c = record { does = rw c.in-Arithmetic.is c.in_ok-arithmetic-in-Arithmetic.ensures.does }

@@ -17,21 +17,21 @@ use Rattle.texml_assign.proofs.fillers.first_behind.Goals as goal
 pub returns-in_err-looked-clause-does : goal.returns-in_err-looked-clause-does
 returns-in_err-looked-clause-does g c =
     let i = c.tokens.invariant in let run = i.going.running in let f = c.in_err-looked.ensures in let mid = c.look.new.self in let q = c.args.filler in
-    let s = does_call (hears g.T.Teller.wanting g.T.Teller.heard) (hears_part g.T.Teller.wanting g.T.Teller.part) look (option_map (looked_at mid.names)) (Err c.in_err-looked.field-0.0) c.tokens.engine mid _ _ _ _ (f.follows run) (f.stops run) (f.limit run) tt f.progress f.holds tt in
+    let s = does_call (hears g.T.Teller.wanting g.T.Teller.heard) (hears_part g.T.Teller.wanting g.T.Teller.part) look (option_map (looked_at mid.names)) (Err c.in_err-looked.field-0.0) c.tokens.engine mid _ _ _ _ (f.follows run) (f.spends run) (f.stops run) (f.limit run) tt f.progress f.holds tt in
     let h = goes_stops _ _ (filler_loop q) (filler_laws q) _ tt tt _ _ _ _ _ _ _ _ _ i.going s in
     rw (passed_on c.from_residual.result c.in_err-looked.field-0.0 c.from_residual.ensures) h
 
 pub returns-in-None-clause-does : goal.returns-in-None-clause-does
 returns-in-None-clause-does g c =
     let i = c.tokens.invariant in let run = i.going.running in let f = c.in_ok-looked.ensures in let mid = c.look.new.self in let q = c.args.filler in
-    let s = rw c.in-None.is at (does_call (hears g.T.Teller.wanting g.T.Teller.heard) (hears_part g.T.Teller.wanting g.T.Teller.part) look (option_map (looked_at mid.names)) _ c.tokens.engine mid _ _ _ _ (f.follows run) (f.stops run) tt (f.keeps run) f.progress f.holds (no_more (f.lower run))) in
+    let s = rw c.in-None.is at (does_call (hears g.T.Teller.wanting g.T.Teller.heard) (hears_part g.T.Teller.wanting g.T.Teller.part) look (option_map (looked_at mid.names)) _ c.tokens.engine mid _ _ _ _ (f.follows run) (f.spends run) (f.stops run) tt (f.keeps run) f.progress f.holds (no_more (f.lower run))) in
     goes_ends _ _ (filler_loop q) (filler_laws q) (Ok None) tt tt _ _ mid mid _ _ _ _ _ _ _ _ i.going s
     (does_now _ _ (give None) (plain_give None) None mid _ _ s.keeps.sound s.holds.owns s.stops.kept (λ shelf. refl))
 
 pub returns-then-not-passes-clause-does : goal.returns-then-not-passes-clause-does
 returns-then-not-passes-clause-does g c =
     let i = c.tokens.invariant in let run = i.going.running in let f = c.in_ok-looked.ensures in let mid = c.look.new.self in let q = c.args.filler in
-    let s = rw c.in-Some.is at (does_call (hears g.T.Teller.wanting g.T.Teller.heard) (hears_part g.T.Teller.wanting g.T.Teller.part) look (option_map (looked_at mid.names)) _ c.tokens.engine mid _ _ _ _ (f.follows run) (f.stops run) tt (f.keeps run) f.progress f.holds (no_more (f.lower run))) in
+    let s = rw c.in-Some.is at (does_call (hears g.T.Teller.wanting g.T.Teller.heard) (hears_part g.T.Teller.wanting g.T.Teller.part) look (option_map (looked_at mid.names)) _ c.tokens.engine mid _ _ _ _ (f.follows run) (f.spends run) (f.stops run) tt (f.keeps run) f.progress f.holds (no_more (f.lower run))) in
     let x = looked_at mid.names c.in-Some.looked in
     goes_over _ _ (filler_loop q) (filler_laws q) x (Some x) tt tt _ _ mid mid _ _ _ _ _ _ _ _ i.going s
     (does_now _ _ (λ s. filler_turn q tt x 0 s) (plain_filler_turn q tt x) (Over (Some x)) mid _ _ s.keeps.sound s.holds.owns s.stops.kept (λ shelf. ap (λ (b : Bool). Done (if b then On tt else Over (Some x)) (state_of shelf mid) nothing) (sym c.in-Ok.ensures ∙ c.if-not-passes.true)))
@@ -39,7 +39,7 @@ returns-then-not-passes-clause-does g c =
 pub returns-in-Err-clause-does : goal.returns-in-Err-clause-does
 returns-in-Err-clause-does g c =
     let i = c.tokens.invariant in let run = i.going.running in let f = c.in_ok-looked.ensures in let mid = c.look.new.self in let q = c.args.filler in
-    let s = rw c.in-Some.is at (does_call (hears g.T.Teller.wanting g.T.Teller.heard) (hears_part g.T.Teller.wanting g.T.Teller.part) look (option_map (looked_at mid.names)) _ c.tokens.engine mid _ _ _ _ (f.follows run) (f.stops run) tt (f.keeps run) f.progress f.holds (no_more (f.lower run))) in
+    let s = rw c.in-Some.is at (does_call (hears g.T.Teller.wanting g.T.Teller.heard) (hears_part g.T.Teller.wanting g.T.Teller.part) look (option_map (looked_at mid.names)) _ c.tokens.engine mid _ _ _ _ (f.follows run) (f.spends run) (f.stops run) tt (f.keeps run) f.progress f.holds (no_more (f.lower run))) in
     let x = looked_at mid.names c.in-Some.looked in
     goes_turn_stops _ _ (filler_loop q) (filler_laws q) x _ tt tt _ _ mid c.no_memory.new.self _ _ _ _ _ _ _ _ i.going s
     (does_out _ _ ((filler_loop q).turn tt x) ((filler_laws q).turn tt x) c.no_memory.result mid c.no_memory.new.self _ _ s.keeps.sound s.holds.owns c.no_memory.ensures.is c.no_memory.ensures.kept)
@@ -62,7 +62,7 @@ tokens-smaller g c =
 pub rounds-preserved : goal.rounds-preserved
 rounds-preserved g c =
     let i = c.tokens.invariant in let run = i.going.running in let f = c.in_ok-looked.ensures in let mid = c.look.new.self in let q = c.args.filler in
-    let s = rw c.in-Some.is at (does_call (hears g.T.Teller.wanting g.T.Teller.heard) (hears_part g.T.Teller.wanting g.T.Teller.part) look (option_map (looked_at mid.names)) _ c.tokens.engine mid _ _ _ _ (f.follows run) (f.stops run) tt (f.keeps run) f.progress f.holds (no_more (f.lower run))) in
+    let s = rw c.in-Some.is at (does_call (hears g.T.Teller.wanting g.T.Teller.heard) (hears_part g.T.Teller.wanting g.T.Teller.part) look (option_map (looked_at mid.names)) _ c.tokens.engine mid _ _ _ _ (f.follows run) (f.spends run) (f.stops run) tt (f.keeps run) f.progress f.holds (no_more (f.lower run))) in
     let x = looked_at mid.names c.in-Some.looked in
     record {
       going = goes_on _ _ (filler_loop q) (filler_laws q) x tt tt tt _ _ mid mid _ _ _ _ _ _ _ _ i.going s
@@ -72,7 +72,7 @@ rounds-preserved g c =
 pub tokens-preserved : goal.tokens-preserved
 tokens-preserved g c =
     let i = c.tokens.invariant in let run = i.going.running in let f = c.in_ok-looked.ensures in let mid = c.look.new.self in let q = c.args.filler in
-    let s = rw c.in-Some.is at (does_call (hears g.T.Teller.wanting g.T.Teller.heard) (hears_part g.T.Teller.wanting g.T.Teller.part) look (option_map (looked_at mid.names)) _ c.tokens.engine mid _ _ _ _ (f.follows run) (f.stops run) tt (f.keeps run) f.progress f.holds (no_more (f.lower run))) in
+    let s = rw c.in-Some.is at (does_call (hears g.T.Teller.wanting g.T.Teller.heard) (hears_part g.T.Teller.wanting g.T.Teller.part) look (option_map (looked_at mid.names)) _ c.tokens.engine mid _ _ _ _ (f.follows run) (f.spends run) (f.stops run) tt (f.keeps run) f.progress f.holds (no_more (f.lower run))) in
     let x = looked_at mid.names c.in-Some.looked in
     let l = rw c.in-Some.is at (f.lower run) in
     record {

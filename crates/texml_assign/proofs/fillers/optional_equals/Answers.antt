@@ -1,16 +1,17 @@
-use Rattle.std.proofs.Common.{Option, rules}
+use Rattle.std.proofs.Common.{Option}
 use Rattle.std.specs.Option.{option_map}
 use Rattle.texml_expand.specs.Fronts.{looked_at}
 use Rattle.texml_expand.specs.Quantities.{Looked}
 use Rattle.texml_assign.specs.declared.fillers.Filler.TheVariants.{Spaces}
 use Rattle.texml_assign.specs.Fillers.{first_behind, past_equals}
+use Rattle.texml_expand.proofs.Stopping.{passed_on}
 use Rattle.texml_assign.proofs.Doing.{does_stop_sure, does_put}
 use Rattle.texml_assign.proofs.Quantities.{lawful_first, sure_past, past_decided, past_unlimited}
 use Rattle.texml_assign.proofs.fillers.optional_equals.Goals as goal
 
 pub returns-in_err-first : goal.returns-in_err-first
 returns-in_err-first g c =
-    let h = does_stop_sure _ _ (first_behind Spaces) (λ o n. past_equals o) (lawful_first Spaces) sure_past _ _ _ _ _ _ _ c.requires.sound c.in_err-first.ensures.does in search (rules, h)
+    let h = does_stop_sure _ _ (first_behind Spaces) (λ o n. past_equals o) (lawful_first Spaces) sure_past _ _ _ _ _ _ _ c.requires.sound c.in_err-first.ensures.does in record { does = rw (passed_on c.from_residual.result c.in_err-first.field-0.0 c.from_residual.ensures) h }
 
 pub returns : goal.returns
 returns g c = record {

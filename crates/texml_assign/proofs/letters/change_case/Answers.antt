@@ -1,7 +1,7 @@
-use Rattle.std.proofs.Common.{rules}
 use Rattle.texml_token.specs.Numbers.{tokens_at}
 use Rattle.texml_expand.specs.State.{change}
 use Rattle.texml_assign.specs.Letters.{next_group, put_in_case}
+use Rattle.texml_expand.proofs.Stopping.{passed_on}
 use Rattle.texml_assign.proofs.Doing.{does_stop_sure, does_put}
 use Rattle.texml_assign.proofs.LetterCases.{lawful_next_group, sure_case}
 use Rattle.texml_assign.proofs.letters.change_case.Goals as goal
@@ -9,7 +9,7 @@ use Rattle.texml_assign.proofs.letters.change_case.Goals as goal
 pub returns-in_err-list : goal.returns-in_err-list
 returns-in_err-list g c =
     let case = c.args.case in
-    let h = does_stop_sure _ _ next_group (λ list n. change (put_in_case case list)) lawful_next_group (sure_case case) _ _ _ _ _ _ _ c.requires.sound c.in_err-list.ensures.does in search (rules, h)
+    let h = does_stop_sure _ _ next_group (λ list n. change (put_in_case case list)) lawful_next_group (sure_case case) _ _ _ _ _ _ _ c.requires.sound c.in_err-list.ensures.does in record { does = rw (passed_on c.from_residual.result c.in_err-list.field-0.0 c.from_residual.ensures) h }
 
 pub returns : goal.returns
 returns g c = record {

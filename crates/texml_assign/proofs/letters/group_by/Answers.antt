@@ -1,4 +1,4 @@
-use Rattle.std.proofs.Common.{Option, Ok, Err, length, rules, arith}
+use Rattle.std.proofs.Common.{Option, Ok, Err, length, arith}
 use Rattle.std.specs.Option.{option_map}
 use Rattle.texml_token.specs.Numbers.{tokens_at}
 use Rattle.texml_expand.specs.Contract.{outside}
@@ -8,6 +8,7 @@ use Rattle.texml_expand.specs.Quantities.{Looked}
 use Rattle.texml_expand.specs.Hearing.{hears, hears_part}
 use Rattle.texml_assign.specs.Assignments.{list_start}
 use Rattle.texml_assign.specs.Letters.{group_from}
+use Rattle.texml_expand.proofs.Stopping.{passed_on}
 use Rattle.texml_assign.proofs.Readings.{lawful_plain}
 use Rattle.texml_expand.proofs.Running.{shrinks_none, shrinks_puts}
 use Rattle.texml_assign.proofs.Doing.{does_then, does_stop, does_judge, takes_behind, puts_stopped}
@@ -20,7 +21,7 @@ returns-in_err-start-clause-does g c =
     let old = c.args.engine.now in let new = c.list_start.new.engine in let o : Option Looked = option_map (looked_at old.names) c.args.first in let e = c.in_err-start.field-0.0 in let k = c.in_err-start.ensures in
     let h = does_stop (hears g.T.Teller.wanting g.T.Teller.heard) (hears_part g.T.Teller.wanting g.T.Teller.part) (λ n. list_start o) group_from (lawful_plain (list_start o) (plain_list_start o)) lawful_group_from e old new _ _ _ _ c.requires.sound
     (does_judge _ _ (list_start o) (plain_list_start o) (Err e) old new (outside (g.F.Files.shelf c.args.files.now) (g.F.Files.faults c.args.files.now) (g.T.Teller.faults c.args.tell.now) (g.T.Teller.loan c.args.tell.now)) c.args.tell.now c.requires.owns k.starts k.kept tt k.is) in
-    search (rules, h)
+    rw (passed_on c.from_residual.result c.in_err-start.field-0.0 c.from_residual.ensures) h
 
 pub returns-clause-does : goal.returns-clause-does
 returns-clause-does g c =

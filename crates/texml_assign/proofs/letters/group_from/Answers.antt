@@ -11,7 +11,7 @@ use Rattle.texml_assign.proofs.letters.group_from.Goals as goal
 pub returns-in-Group-clause-does : goal.returns-in-Group-clause-does
 returns-in-Group-clause-does g c =
     let f = c.absorb.ensures in let new = c.absorb.new.self in let run = c.requires.running in
-    rw c.in-Group.is (does_call (hears g.T.Teller.wanting g.T.Teller.heard) (hears_part g.T.Teller.wanting g.T.Teller.part) (absorb false) (tokens_at new.names) c.absorb.result c.args.engine.now new _ _ _ _ (f.follows run) (f.stops run) (f.limit run) (f.keeps run) f.progress f.holds (takes_any c.absorb.result (λ list. length list + 1) _ _ _ _ (f.lower run)))
+    rw c.in-Group.is (does_call (hears g.T.Teller.wanting g.T.Teller.heard) (hears_part g.T.Teller.wanting g.T.Teller.part) (absorb false) (tokens_at new.names) c.absorb.result c.args.engine.now new _ _ _ _ (f.follows run) (f.spends run) (f.stops run) (f.limit run) (f.keeps run) f.progress f.holds (takes_any c.absorb.result (λ list. length list + 1) _ _ _ _ (f.lower run)))
 
 pub returns-in-Register-clause-does : goal.returns-in-Register-clause-does
 returns-in-Register-clause-does g c =

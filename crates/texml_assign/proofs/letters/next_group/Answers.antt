@@ -1,4 +1,4 @@
-use Rattle.std.proofs.Common.{length, rules}
+use Rattle.std.proofs.Common.{length}
 use Rattle.std.specs.Option.{option_map}
 use Rattle.texml_token.specs.Numbers.{tokens_at}
 use Rattle.texml_expand.specs.Held.{ok_at}
@@ -6,6 +6,7 @@ use Rattle.texml_expand.specs.Fronts.{looked_at}
 use Rattle.texml_assign.specs.declared.fillers.Filler.TheVariants.{SpacesAndRelax}
 use Rattle.texml_assign.specs.Fillers.{first_behind}
 use Rattle.texml_assign.specs.Letters.{group_by}
+use Rattle.texml_expand.proofs.Stopping.{passed_on}
 use Rattle.texml_assign.proofs.Doing.{does_then, does_stop, takes_behind}
 use Rattle.texml_assign.proofs.Quantities.{lawful_first}
 use Rattle.texml_assign.proofs.LetterCases.{lawful_group_by}
@@ -13,7 +14,7 @@ use Rattle.texml_assign.proofs.letters.next_group.Goals as goal
 
 pub returns-in_err-first-clause-does : goal.returns-in_err-first-clause-does
 returns-in_err-first-clause-does g c =
-    let h = does_stop _ _ (first_behind SpacesAndRelax) group_by (lawful_first SpacesAndRelax) lawful_group_by _ _ _ _ _ _ _ c.requires.sound c.in_err-first.ensures.does in search (rules, h)
+    let h = does_stop _ _ (first_behind SpacesAndRelax) group_by (lawful_first SpacesAndRelax) lawful_group_by _ _ _ _ _ _ _ c.requires.sound c.in_err-first.ensures.does in rw (passed_on c.from_residual.result c.in_err-first.field-0.0 c.from_residual.ensures) h
 
 pub returns-clause-does : goal.returns-clause-does
 returns-clause-does g c =

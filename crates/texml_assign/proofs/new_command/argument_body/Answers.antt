@@ -1,9 +1,10 @@
-use Rattle.std.proofs.Common.{Ok, Err, rules}
+use Rattle.std.proofs.Common.{Ok, Err}
 use Rattle.texml_token.specs.Numbers.{tokens_at}
 use Rattle.texml_expand.specs.Arguments.{read_argument}
 use Rattle.texml_expand.specs.Held.{Kept, ok_at}
 use Rattle.texml_expand.specs.Hearing.{hears, hears_part}
 use Rattle.texml_assign.specs.Define.{body_said}
+use Rattle.texml_expand.proofs.Stopping.{passed_on}
 use Rattle.texml_assign.proofs.Parts.{plain_body_said}
 use Rattle.texml_assign.proofs.NewCommands.{plain_argument}
 use Rattle.texml_assign.proofs.Readings.{lawful_plain}
@@ -14,13 +15,13 @@ pub returns-in_err-list-clause-does : goal.returns-in_err-list-clause-does
 returns-in_err-list-clause-does g c =
     let slots = c.args.slots in let old = c.args.engine.now in let mid = c.read_argument.new.self in let a = c.in_err-list.ensures in let e = c.in_err-list.field-0.0 in let run = c.requires.running in
     let h = does_stop (hears g.T.Teller.wanting g.T.Teller.heard) (hears_part g.T.Teller.wanting g.T.Teller.part) (λ n. read_argument) (λ v n. body_said slots v) (lawful_plain read_argument plain_argument) (λ v. lawful_plain (body_said slots v) (plain_body_said slots v)) e old mid _ _ _ _ c.requires.sound
-    (does_reads _ _ read_argument plain_argument (tokens_at mid.names) (Err e) old mid _ _ _ _ a.tell (a.reads run) (a.stops run) (a.limit run) tt a.progress a.holds tt) in
-    search (rules, h)
+    (does_reads _ _ read_argument plain_argument (tokens_at mid.names) (Err e) old mid _ _ _ _ a.tell (a.reads run) (a.spends run) (a.stops run) (a.limit run) tt a.progress a.holds tt) in
+    rw (passed_on c.from_residual.result c.in_err-list.field-0.0 c.from_residual.ensures) h
 
 pub returns-clause-does : goal.returns-clause-does
 returns-clause-does g c =
     let slots = c.args.slots in let old = c.args.engine.now in let mid = c.read_argument.new.self in let new = c.body_said.new.engine in let a = c.in_ok-list.ensures in let run = c.requires.running in
     let v = tokens_at mid.names c.in_ok-list.list in let n = c.body_said.ensures in let r = c.body_said.result in
     does_then _ _ (λ n. read_argument) (λ v n. body_said slots v) (lawful_plain read_argument plain_argument) (λ v. lawful_plain (body_said slots v) (plain_body_said slots v)) v _ old mid new _ _ _ _ _ _
-    (does_reads _ _ read_argument plain_argument (tokens_at mid.names) (Ok c.in_ok-list.list) old mid _ _ _ _ a.tell (a.reads run) (a.stops run) tt (a.keeps run) a.progress a.holds (no_more (a.lower run)))
+    (does_reads _ _ read_argument plain_argument (tokens_at mid.names) (Ok c.in_ok-list.list) old mid _ _ _ _ a.tell (a.reads run) (a.spends run) (a.stops run) tt (a.keeps run) a.progress a.holds (no_more (a.lower run)))
     (does_judge _ _ (body_said slots v) (plain_body_said slots v) (ok_at (tokens_at new.names) r) mid new _ _ a.holds.owns n.needs (kept_of (tokens_at new.names) r new.stop n.kept) (keeps_of (tokens_at new.names) r (Kept mid new) n.keeps) n.is)

@@ -1,4 +1,4 @@
-use Rattle.std.proofs.Common.{length, sym, ap, subst, ◌∙◌, rules}
+use Rattle.std.proofs.Common.{length, sym, ap, subst, ◌∙◌}
 use Rattle.std.specs.Option.{option_map}
 use Rattle.texml_token.specs.Numbers.{tokens_at}
 use Rattle.texml_scope.specs.declared.values.MeaningOf.TheVariants.{Macro}
@@ -6,6 +6,7 @@ use Rattle.texml_scope.specs.Numbers.{meaning_at, MacroWithin}
 use Rattle.texml_expand.specs.State.{Done, nothing}
 use Rattle.texml_expand.specs.Held.{state_of}
 use Rattle.texml_assign.specs.NewCommand.{parameter_count, first_default, argument_body, command_of}
+use Rattle.texml_expand.proofs.Stopping.{passed_on}
 use Rattle.texml_assign.proofs.Readings.{lawful_plain, plain_give}
 use Rattle.texml_assign.proofs.Doing.{does_then, does_stop, does_now, does_out}
 use Rattle.texml_assign.proofs.NewCommands.{plain_parameter_count, plain_first_default, plain_argument_body, body_read, default_read, plain_default_read, slots_read, plain_slots_read, command_at, command_within, default_stays, default_more}
@@ -15,14 +16,14 @@ pub returns-in_err-slots-clause-does : goal.returns-in_err-slots-clause-does
 returns-in_err-slots-clause-does g c =
     let long = c.args.long in
     let h = does_stop _ _ (λ n. parameter_count) (λ slots n. slots_read long slots) (lawful_plain parameter_count plain_parameter_count) (λ slots. lawful_plain (slots_read long slots) (plain_slots_read long slots)) _ _ _ _ _ _ _ c.requires.sound c.in_err-slots.ensures.does in
-    search (rules, h)
+    rw (passed_on c.from_residual.result c.in_err-slots.field-0.0 c.from_residual.ensures) h
 
 pub returns-in_err-default-clause-does : goal.returns-in_err-default-clause-does
 returns-in_err-default-clause-does g c =
     let long = c.args.long in let f = c.in_ok-slots.ensures.does in let slots = c.in_ok-slots.slots in
     let h = does_then _ _ (λ n. parameter_count) (λ slots n. slots_read long slots) (lawful_plain parameter_count plain_parameter_count) (λ slots. lawful_plain (slots_read long slots) (plain_slots_read long slots)) slots _ _ _ _ _ _ _ _ _ _ f
     (does_stop _ _ (λ n. first_default slots) (λ d n. default_read long slots d) (lawful_plain (first_default slots) (plain_first_default slots)) (λ d. lawful_plain (default_read long slots d) (plain_default_read long slots d)) _ _ _ _ _ _ _ f.keeps.sound c.in_err-default.ensures.does) in
-    search (rules, h)
+    rw (passed_on c.from_residual-in_err-default.result c.in_err-default.field-0.0 c.from_residual-in_err-default.ensures) h
 
 pub returns-in_err-body-clause-does : goal.returns-in_err-body-clause-does
 returns-in_err-body-clause-does g c =
@@ -31,7 +32,7 @@ returns-in_err-body-clause-does g c =
     let h = does_then _ _ (λ n. parameter_count) (λ slots n. slots_read long slots) (lawful_plain parameter_count plain_parameter_count) (λ slots. lawful_plain (slots_read long slots) (plain_slots_read long slots)) slots _ _ _ _ _ _ _ _ _ _ f
     (does_then _ _ (λ n. first_default slots) (λ d n. default_read long slots d) (lawful_plain (first_default slots) (plain_first_default slots)) (λ d. lawful_plain (default_read long slots d) (plain_default_read long slots d)) d _ _ _ _ _ _ _ _ _ _ k
     (does_stop _ _ (λ n. argument_body slots) (λ b n. body_read long slots d b) (lawful_plain (argument_body slots) (plain_argument_body slots)) (λ b. lawful_plain (body_read long slots d b) (plain_give _)) _ _ _ _ _ _ _ k.keeps.sound c.in_err-body.ensures.does)) in
-    search (rules, h)
+    rw (passed_on c.from_residual-in_err-body.result c.in_err-body.field-0.0 c.from_residual-in_err-body.ensures) h
 
 pub returns-in-Ok-clause-does : goal.returns-in-Ok-clause-does
 returns-in-Ok-clause-does g c =

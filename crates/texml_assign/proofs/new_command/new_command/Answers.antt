@@ -1,4 +1,4 @@
-use Rattle.std.proofs.Common.{false, not, Option, Some, None, refl, subst, rules}
+use Rattle.std.proofs.Common.{false, not, Option, Some, None, refl, subst}
 use Rattle.std.specs.Option.{option_map}
 use Rattle.texml_scope.specs.Texts.{Key}
 use Rattle.texml_scope.specs.Numbers.{key_at, meaning_at}
@@ -6,6 +6,7 @@ use Rattle.texml_expand.specs.State.{change}
 use Rattle.texml_expand.specs.Contract.{Local}
 use Rattle.texml_assign.specs.Sets.{assign}
 use Rattle.texml_assign.specs.NewCommand.{starred, command_key, command_macro}
+use Rattle.texml_expand.proofs.Stopping.{passed_on}
 use Rattle.texml_assign.proofs.Readings.{lawful_plain}
 use Rattle.texml_assign.proofs.Doing.{does_then, does_stop, does_now, does_local}
 use Rattle.texml_assign.proofs.Worlds.{key_stays}
@@ -16,14 +17,14 @@ pub returns-in_err-star : goal.returns-in_err-star
 returns-in_err-star g c =
     let naming = c.args.naming in
     let h = does_stop _ _ (λ n. starred) (λ star n. star_read naming star) (lawful_plain starred plain_starred) (λ star. lawful_plain (star_read naming star) (plain_star_read naming star)) _ _ _ _ _ _ _ c.requires.sound c.in_err-star.ensures.does in
-    search (rules, h)
+    record { does = rw (passed_on c.from_residual.result c.in_err-star.field-0.0 c.from_residual.ensures) h }
 
 pub returns-in_err-key : goal.returns-in_err-key
 returns-in_err-key g c =
     let naming = c.args.naming in let f = c.in_ok-star.ensures.does in let star = c.in_ok-star.star in
     let h = does_then _ _ (λ n. starred) (λ star n. star_read naming star) (lawful_plain starred plain_starred) (λ star. lawful_plain (star_read naming star) (plain_star_read naming star)) star _ _ _ _ _ _ _ _ _ _ f
     (does_stop _ _ (λ n. command_key naming) (λ o n. key_read star o) (lawful_plain (command_key naming) (plain_command_key naming)) (λ o. lawful_plain (key_read star o) (plain_key_read star o)) _ _ _ _ _ _ _ f.keeps.sound c.in_err-key.ensures.does) in
-    search (rules, h)
+    record { does = rw (passed_on c.from_residual-in_err-key.result c.in_err-key.field-0.0 c.from_residual-in_err-key.ensures) h }
 
 pub returns-in_err-meaning : goal.returns-in_err-meaning
 returns-in_err-meaning g c =
@@ -32,7 +33,7 @@ returns-in_err-meaning g c =
     let h = does_then _ _ (λ n. starred) (λ star n. star_read naming star) (lawful_plain starred plain_starred) (λ star. lawful_plain (star_read naming star) (plain_star_read naming star)) star _ _ _ _ _ _ _ _ _ _ f
     (does_then _ _ (λ n. command_key naming) (λ o n. key_read star o) (lawful_plain (command_key naming) (plain_command_key naming)) (λ o. lawful_plain (key_read star o) (plain_key_read star o)) o _ _ _ _ _ _ _ _ _ _ k
     (does_stop _ _ (λ n. command_macro (not star)) (λ x n. macro_read o x) (lawful_plain (command_macro (not star)) (plain_command_macro (not star))) (λ x. lawful_plain (macro_read o x) (plain_assign_some o x)) _ _ _ _ _ _ _ k.keeps.sound c.in_err-meaning.ensures.does)) in
-    search (rules, h)
+    record { does = rw (passed_on c.from_residual-in_err-meaning.result c.in_err-meaning.field-0.0 c.from_residual-in_err-meaning.ensures) h }
 
 pub returns-in-Some : goal.returns-in-Some
 returns-in-Some g c = record {

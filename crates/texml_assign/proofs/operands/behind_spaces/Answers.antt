@@ -1,16 +1,17 @@
-use Rattle.std.proofs.Common.{true, false, refl, sym, ◌∙◌, rules, arith}
+use Rattle.std.proofs.Common.{true, false, refl, sym, ◌∙◌, arith}
 use Rattle.texml_token.specs.Numbers.{token_at}
 use Rattle.texml_token.specs.declared.fault_code.TheConstants.{FILE_ENDED}
 use Rattle.texml_expand.specs.Held.{state_of}
 use Rattle.texml_assign.specs.Loop.{On, Over}
 use Rattle.texml_assign.specs.Operands.{token_or_end, space_turn, spaces_loop}
+use Rattle.texml_expand.proofs.Stopping.{passed_on}
 use Rattle.texml_assign.proofs.Doing.{does_now, does_out, does_fault, goes_stops, goes_ends, goes_turn_stops, goes_over, goes_on}
 use Rattle.texml_assign.proofs.Commands.{plain_space_turn, space_is, spaces_laws}
 use Rattle.texml_assign.proofs.operands.behind_spaces.Goals as goal
 
 pub returns-in_err-token-clause-does : goal.returns-in_err-token-clause-does
 returns-in_err-token-clause-does g c =
-    let h = goes_stops _ _ spaces_loop spaces_laws _ tt tt _ _ _ _ _ _ _ _ _ c.spaces.invariant.going c.in_err-token.ensures.does in search (rules, h)
+    let h = goes_stops _ _ spaces_loop spaces_laws _ tt tt _ _ _ _ _ _ _ _ _ c.spaces.invariant.going c.in_err-token.ensures.does in rw (passed_on c.from_residual.result c.in_err-token.field-0.0 c.from_residual.ensures) h
 
 pub returns-in-None-clause-does : goal.returns-in-None-clause-does
 returns-in-None-clause-does g c =

@@ -1,9 +1,10 @@
-use Rattle.std.proofs.Common.{sym, ap, rules}
+use Rattle.std.proofs.Common.{sym, ap}
 use Rattle.texml_token.specs.Numbers.{token_at}
 use Rattle.texml_scope.specs.Numbers.{meaning_at}
 use Rattle.texml_expand.specs.State.{Done, nothing}
 use Rattle.texml_expand.specs.Held.{state_of}
 use Rattle.texml_assign.specs.Operands.{behind_spaces, behind_equals, meaning_now}
+use Rattle.texml_expand.proofs.Stopping.{passed_on}
 use Rattle.texml_assign.proofs.Readings.{lawful_plain}
 use Rattle.texml_assign.proofs.Doing.{does_then, does_stop, does_now, does_out}
 use Rattle.texml_assign.proofs.Commands.{lawful_spaces, plain_behind_equals, plain_meaning_now, meant_behind, plain_meant_behind}
@@ -11,14 +12,14 @@ use Rattle.texml_assign.proofs.operands.meant.Goals as goal
 
 pub returns-in_err-first-clause-does : goal.returns-in_err-first-clause-does
 returns-in_err-first-clause-does g c =
-    let h = does_stop _ _ behind_spaces (λ t n. meant_behind t) lawful_spaces (λ t. lawful_plain (meant_behind t) (plain_meant_behind t)) _ _ _ _ _ _ _ c.requires.sound c.in_err-first.ensures.does in search (rules, h)
+    let h = does_stop _ _ behind_spaces (λ t n. meant_behind t) lawful_spaces (λ t. lawful_plain (meant_behind t) (plain_meant_behind t)) _ _ _ _ _ _ _ c.requires.sound c.in_err-first.ensures.does in rw (passed_on c.from_residual.result c.in_err-first.field-0.0 c.from_residual.ensures) h
 
 pub returns-in_err-token-clause-does : goal.returns-in_err-token-clause-does
 returns-in_err-token-clause-does g c =
     let f = c.in_ok-first.ensures.does in let t = token_at c.behind_spaces.new.engine.names c.in_ok-first.first in
     let h = does_then _ _ behind_spaces (λ t n. meant_behind t) lawful_spaces (λ t. lawful_plain (meant_behind t) (plain_meant_behind t)) t _ _ _ _ _ _ _ _ _ _ f
     (does_stop _ _ (λ n. behind_equals t) (λ u n. meaning_now u) (lawful_plain (behind_equals t) (plain_behind_equals t)) (λ u. lawful_plain (meaning_now u) (plain_meaning_now u)) _ _ _ _ _ _ _ f.keeps.sound c.in_err-token.ensures.does) in
-    search (rules, h)
+    rw (passed_on c.from_residual-in_err-token.result c.in_err-token.field-0.0 c.from_residual-in_err-token.ensures) h
 
 pub returns-in-Ok-clause-does : goal.returns-in-Ok-clause-does
 returns-in-Ok-clause-does g c =

@@ -1,6 +1,7 @@
-use Rattle.std.proofs.Common.{Some, None, refl, rules}
+use Rattle.std.proofs.Common.{Some, None, refl}
 use Rattle.texml_token.specs.Numbers.{token_at}
 use Rattle.texml_assign.specs.Operands.{token_or_end, needed}
+use Rattle.texml_expand.proofs.Stopping.{passed_on}
 use Rattle.texml_assign.proofs.Readings.{lawful_plain}
 use Rattle.texml_assign.proofs.Doing.{does_then, does_stop, does_now, does_fault}
 use Rattle.texml_assign.proofs.Commands.{plain_token_or_end, plain_needed}
@@ -9,7 +10,7 @@ use Rattle.texml_assign.proofs.operands.next_token.Goals as goal
 pub returns-in_err-next-clause-does : goal.returns-in_err-next-clause-does
 returns-in_err-next-clause-does g c =
     let h = does_stop _ _ (λ n. token_or_end) (λ o n. needed o) (lawful_plain token_or_end plain_token_or_end) (λ o. lawful_plain (needed o) (plain_needed o)) _ _ _ _ _ _ _ c.requires.sound c.in_err-next.ensures.does in
-    search (rules, h)
+    rw (passed_on c.from_residual.result c.in_err-next.field-0.0 c.from_residual.ensures) h
 
 pub returns-in-Some-clause-does : goal.returns-in-Some-clause-does
 returns-in-Some-clause-does g c =

@@ -1,5 +1,7 @@
 use Rattle.std.proofs.Common.{◌∙◌, IsTrue, Ok, Err, Some, None, refl, sym, subst, arith}
 use Rattle.texml_token.proofs.Table.{extends_trans}
+use Rattle.texml_scope.specs.Shown.{world_of}
+use Rattle.texml_input.specs.Codes.{cats_of, end_of}
 use Rattle.texml_input.specs.Next.{next}
 use Rattle.texml_input.specs.Held.{rest_at, front_size}
 use Rattle.texml_input.specs.Inside.{sources_of}
@@ -13,9 +15,9 @@ pub loop-fault-preserved-in-Ok-Again : goal.loop-fault-preserved-in-Ok-Again
 loop-fault-preserved-in-Ok-Again g c =
     let told_now : IsTrue (g.F.Files.shelf c.args.files.now).tells → IsTrue (g.F.Files.shelf c.loop-fault.files).tells = λ told. subst IsTrue (sym c.loop-fault.invariant.holds.tells) told in
     record {
-      onward = λ told. onward_again _ _ _ (next (g.C.Codes.cats c.args.codes.now) c.args.end (rest_at c.take_turn.new.names (g.F.Files.shelf c.take_turn.new.files) (sources_of c.take_turn.new.frames.items)) c.take_turn.new.place) (c.loop-fault.invariant.onward told) (rw c.in-Ok-Again.field-0-is at (c.in-Ok-Again.ensures.turns (told_now told)));
+      onward = λ told. onward_again _ _ _ (next (cats_of (world_of c.args.scope.now)) (end_of (world_of c.args.scope.now)) (rest_at c.take_turn.new.names (g.F.Files.shelf c.take_turn.new.files) (sources_of c.take_turn.new.frames.items)) c.take_turn.new.place) (c.loop-fault.invariant.onward told) (rw c.in-Ok-Again.field-0-is at (c.in-Ok-Again.ensures.turns (told_now told)));
       spent = λ told small.
-          spent_again _ _ _ _ _ _ _ _ _ (next (g.C.Codes.cats c.args.codes.now) c.args.end (rest_at c.take_turn.new.names (g.F.Files.shelf c.take_turn.new.files) (sources_of c.take_turn.new.frames.items)) c.take_turn.new.place) (c.loop-fault.invariant.spent told small)
+          spent_again _ _ _ _ _ _ _ _ _ (next (cats_of (world_of c.args.scope.now)) (end_of (world_of c.args.scope.now)) (rest_at c.take_turn.new.names (g.F.Files.shelf c.take_turn.new.files) (sources_of c.take_turn.new.frames.items)) c.take_turn.new.place) (c.loop-fault.invariant.spent told small)
           (rw c.in-Ok-Again.field-0-is at (c.in-Ok-Again.ensures.spends (told_now told) (c.loop-fault.invariant.little small)))
           (rw c.in-Ok-Again.field-0-is at (c.in-Ok-Again.ensures.turns (told_now told)));
       holds = holds_trans _ _ _ _ _ _ c.loop-fault.invariant.holds c.take_turn.ensures.holds;
@@ -37,9 +39,9 @@ pub loop-fault-preserved-in-Ok-Loaded : goal.loop-fault-preserved-in-Ok-Loaded
 loop-fault-preserved-in-Ok-Loaded g c =
     let told_now : IsTrue (g.F.Files.shelf c.args.files.now).tells → IsTrue (g.F.Files.shelf c.loop-fault.files).tells = λ told. subst IsTrue (sym c.loop-fault.invariant.holds.tells) told in
     record {
-      onward = λ told. onward_loaded _ _ _ (next (g.C.Codes.cats c.args.codes.now) c.args.end (rest_at c.take_turn.new.names (g.F.Files.shelf c.take_turn.new.files) (sources_of c.take_turn.new.frames.items)) c.take_turn.new.place) (c.loop-fault.invariant.onward told) (front_size (g.F.Files.shelf c.loop-fault.files) (sources_of c.loop-fault.frames.items)) (rw c.in-Ok-Loaded.field-0-is at (c.in-Ok-Loaded.ensures.turns (told_now told)));
+      onward = λ told. onward_loaded _ _ _ (next (cats_of (world_of c.args.scope.now)) (end_of (world_of c.args.scope.now)) (rest_at c.take_turn.new.names (g.F.Files.shelf c.take_turn.new.files) (sources_of c.take_turn.new.frames.items)) c.take_turn.new.place) (c.loop-fault.invariant.onward told) (front_size (g.F.Files.shelf c.loop-fault.files) (sources_of c.loop-fault.frames.items)) (rw c.in-Ok-Loaded.field-0-is at (c.in-Ok-Loaded.ensures.turns (told_now told)));
       spent = λ told small.
-          spent_loaded _ _ _ _ _ _ _ _ _ (next (g.C.Codes.cats c.args.codes.now) c.args.end (rest_at c.take_turn.new.names (g.F.Files.shelf c.take_turn.new.files) (sources_of c.take_turn.new.frames.items)) c.take_turn.new.place) (c.loop-fault.invariant.spent told small) (front_size (g.F.Files.shelf c.loop-fault.files) (sources_of c.loop-fault.frames.items))
+          spent_loaded _ _ _ _ _ _ _ _ _ (next (cats_of (world_of c.args.scope.now)) (end_of (world_of c.args.scope.now)) (rest_at c.take_turn.new.names (g.F.Files.shelf c.take_turn.new.files) (sources_of c.take_turn.new.frames.items)) c.take_turn.new.place) (c.loop-fault.invariant.spent told small) (front_size (g.F.Files.shelf c.loop-fault.files) (sources_of c.loop-fault.frames.items))
           (rw c.in-Ok-Loaded.field-0-is at (c.in-Ok-Loaded.ensures.spends (told_now told) (c.loop-fault.invariant.little small)))
           (rw c.in-Ok-Loaded.field-0-is at (c.in-Ok-Loaded.ensures.turns (told_now told)));
       holds = holds_trans _ _ _ _ _ _ c.loop-fault.invariant.holds c.take_turn.ensures.holds;
@@ -61,9 +63,9 @@ pub loop-fault-preserved : goal.loop-fault-preserved
 loop-fault-preserved g c =
     let told_now : IsTrue (g.F.Files.shelf c.args.files.now).tells → IsTrue (g.F.Files.shelf c.loop-fault.files).tells = λ told. subst IsTrue (sym c.loop-fault.invariant.holds.tells) told in
     record {
-      onward = λ told. onward_ended _ _ _ (next (g.C.Codes.cats c.args.codes.now) c.args.end (rest_at c.take_turn.new.names (g.F.Files.shelf c.take_turn.new.files) (sources_of c.take_turn.new.frames.items)) c.take_turn.new.place) (c.loop-fault.invariant.onward told) (rw c.in-Ok-Ended.field-0-is at (c.in-Ok-Ended.ensures.turns (told_now told)));
+      onward = λ told. onward_ended _ _ _ (next (cats_of (world_of c.args.scope.now)) (end_of (world_of c.args.scope.now)) (rest_at c.take_turn.new.names (g.F.Files.shelf c.take_turn.new.files) (sources_of c.take_turn.new.frames.items)) c.take_turn.new.place) (c.loop-fault.invariant.onward told) (rw c.in-Ok-Ended.field-0-is at (c.in-Ok-Ended.ensures.turns (told_now told)));
       spent = λ told small.
-          spent_ended _ _ _ _ _ _ _ _ _ (next (g.C.Codes.cats c.args.codes.now) c.args.end (rest_at c.take_turn.new.names (g.F.Files.shelf c.take_turn.new.files) (sources_of c.take_turn.new.frames.items)) c.take_turn.new.place) (c.loop-fault.invariant.spent told small)
+          spent_ended _ _ _ _ _ _ _ _ _ (next (cats_of (world_of c.args.scope.now)) (end_of (world_of c.args.scope.now)) (rest_at c.take_turn.new.names (g.F.Files.shelf c.take_turn.new.files) (sources_of c.take_turn.new.frames.items)) c.take_turn.new.place) (c.loop-fault.invariant.spent told small)
           (rw c.in-Ok-Ended.field-0-is at (c.in-Ok-Ended.ensures.spends (told_now told) (c.loop-fault.invariant.little small)))
           (rw c.in-Ok-Ended.field-0-is at (c.in-Ok-Ended.ensures.turns (told_now told)));
       holds = holds_trans _ _ _ _ _ _ c.loop-fault.invariant.holds c.take_turn.ensures.holds;
@@ -86,7 +88,7 @@ returns-in-Err-clause-loads g c = λ told small.
     let told_now : IsTrue (g.F.Files.shelf c.loop-fault.files).tells = subst IsTrue (sym c.loop-fault.invariant.holds.tells) told in
     loads_last _ _ _ _ _ _ _ _ _ (c.loop-fault.invariant.spent told small) (Err c.in-Err.fault)
     (turn_bytes (Err c.in-Err.fault) (front_size (g.F.Files.shelf c.loop-fault.files) (sources_of c.loop-fault.frames.items))) (c.in-Err.ensures.spends told_now (c.loop-fault.invariant.little small))
-    (fault_bytes (g.C.Codes.cats c.args.codes.now) c.args.end c.take_turn.new.names
+    (fault_bytes (cats_of (world_of c.args.scope.now)) (end_of (world_of c.args.scope.now)) c.take_turn.new.names
     (front_size (g.F.Files.shelf c.loop-fault.files) (sources_of c.loop-fault.frames.items)) (front_size (g.F.Files.shelf c.take_turn.new.files) (sources_of c.take_turn.new.frames.items))
     (rest_at c.loop-fault.names (g.F.Files.shelf c.loop-fault.files) (sources_of c.loop-fault.frames.items)) c.loop-fault.place
     (rest_at c.take_turn.new.names (g.F.Files.shelf c.take_turn.new.files) (sources_of c.take_turn.new.frames.items)) c.take_turn.new.place

@@ -1,5 +1,7 @@
 use Rattle.std.proofs.Common.{◌≡◌, ◌≤◌, ◌+◌, IsTrue, length, vec_len}
 use Rattle.texml_token.specs.Numbers.{Extends, Numbered}
+use Rattle.texml_scope.specs.Shown.{world_of}
+use Rattle.texml_input.specs.Codes.{cats_of, end_of}
 use Rattle.texml_input.specs.Next.{next}
 use Rattle.texml_input.specs.Held.{fences_of, aside_of, AreSound, AreLittle, SourcesWithin, rest_at, room_of}
 use Rattle.texml_input.specs.Keeping.{Holds}
@@ -13,10 +15,10 @@ invariant-loop-fault g l =
     let now = g.F.Files.shelf l.files in
     let a = sources_of l.initial.frames.items in
     let b = sources_of l.frames.items in record {
-      onward : IsTrue old.tells → Onward (next (g.C.Codes.cats l.codes) l.end (rest_at l.initial.names old a) l.initial.place) l.crossed
-          (next (g.C.Codes.cats l.codes) l.end (rest_at l.names now b) l.place);
-      spent : IsTrue old.tells → AreLittle a → Spent old now a b (next (g.C.Codes.cats l.codes) l.end (rest_at l.initial.names old a) l.initial.place) l.crossed
-          (next (g.C.Codes.cats l.codes) l.end (rest_at l.names now b) l.place);
+      onward : IsTrue old.tells → Onward (next (cats_of (world_of l.scope)) (end_of (world_of l.scope)) (rest_at l.initial.names old a) l.initial.place) l.crossed
+          (next (cats_of (world_of l.scope)) (end_of (world_of l.scope)) (rest_at l.names now b) l.place);
+      spent : IsTrue old.tells → AreLittle a → Spent old now a b (next (cats_of (world_of l.scope)) (end_of (world_of l.scope)) (rest_at l.initial.names old a) l.initial.place) l.crossed
+          (next (cats_of (world_of l.scope)) (end_of (world_of l.scope)) (rest_at l.names now b) l.place);
       holds : Holds old now a b;
       fences : fences_of b ≡ fences_of a;
       aside : IsTrue old.tells → aside_of now b ≡ aside_of old a;

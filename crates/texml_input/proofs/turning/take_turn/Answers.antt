@@ -1,4 +1,6 @@
 use Rattle.std.proofs.Common.{◌∷◌, []}
+use Rattle.texml_scope.specs.Shown.{world_of}
+use Rattle.texml_input.specs.Codes.{cats_of, end_of}
 use Rattle.texml_input.specs.Held.{rest_at, front_size, File, Plain, Marked}
 use Rattle.texml_input.specs.Inside.{sources_of}
 use Rattle.texml_input.proofs.Sources.{within_behind, within_taken}
@@ -22,7 +24,7 @@ returns-in-Some-Macro-clause-within g c = within_taken _ _ c.in-Some-Macro.expan
 
 pub returns-in-Some-File-clause-turns : goal.returns-in-Some-File-clause-turns
 returns-in-Some-File-clause-turns g c = λ told.
-    turns_from (g.C.Codes.cats c.args.codes.now) c.args.end (g.F.Files.shelf c.args.files.now) c.args.names.now c.turn_file.new.names c.turn_file.ensures.grows
+    turns_from (cats_of (world_of c.args.scope.now)) (end_of (world_of c.args.scope.now)) (g.F.Files.shelf c.args.files.now) c.args.names.now c.turn_file.new.names c.turn_file.ensures.grows
     (sources_of c.args.frames.now.items) (File c.in-Some-File.file ∷ sources_of c.take_front.new.frames.items) (rw c.in-Some-File.field-0-is at c.in-Some-File.ensures.sources) c.requires.within
     (front_size (g.F.Files.shelf c.turn_file.new.files) (sources_of c.turn_file.new.frames.items)) c.args.place.now c.turn_file.result
     (rest_at c.turn_file.new.names (g.F.Files.shelf c.turn_file.new.files) (sources_of c.turn_file.new.frames.items)) c.turn_file.new.place (c.turn_file.ensures.turns told)

@@ -3,7 +3,7 @@ use Rattle.texml_base.specs.Outside.{IsClosed}
 use Rattle.texml_text.proofs.Filling.{touches_refl}
 use Rattle.texml_input.specs.Next.{place_at}
 use Rattle.texml_input.specs.Inside.{sources_of}
-use Rattle.texml_input.proofs.InFront.{aside_is, room_is, turn_loaded, turn_not_text, turn_broken, turn_ended, aside_gone, room_gone, holds_gone, little_past}
+use Rattle.texml_input.proofs.InFront.{aside_is, room_is, turn_loaded, turn_not_text, turn_broken, turn_ended, aside_gone, room_gone, holds_gone, little_past, little_broken}
 use Rattle.texml_input.proofs.turning.turn_line.Goals as goal
 
 pub returns-in-Err-clause-turns : goal.returns-in-Err-clause-turns
@@ -79,3 +79,13 @@ returns-in-Err-Failed-clause-aside g c = λ told. aside_is (g.F.Files.shelf c.ar
 
 pub returns-in-Err-NoMemory-clause-aside : goal.returns-in-Err-NoMemory-clause-aside
 returns-in-Err-NoMemory-clause-aside g c = λ told. aside_is (g.F.Files.shelf c.args.files.now) (g.F.Files.shelf c.load.new.files) c.args.file c.load.new.self (sources_of c.args.frames.now.items) (sources_of c.put_last-in-Err-NoMemory.new.frames.items) c.put_last-in-Err-NoMemory.ensures.sources c.requires.held c.in-Err-NoMemory.ensures.id c.in-Err-NoMemory.ensures.touches
+
+pub returns-in-Err-Failed-clause-little : goal.returns-in-Err-Failed-clause-little
+returns-in-Err-Failed-clause-little g c = λ h.
+    little_broken c.load.new.self (sources_of c.args.frames.now.items) (sources_of c.put_last-in-Err-Failed.new.frames.items) c.put_last-in-Err-Failed.ensures.sources c.in-Err-Failed.ensures.broken
+    (rw c.in-Err-Failed.field-0-is at (c.in-Err-Failed.ensures.little h.0)) h.1
+
+pub returns-in-Err-NoMemory-clause-little : goal.returns-in-Err-NoMemory-clause-little
+returns-in-Err-NoMemory-clause-little g c = λ h.
+    little_broken c.load.new.self (sources_of c.args.frames.now.items) (sources_of c.put_last-in-Err-NoMemory.new.frames.items) c.put_last-in-Err-NoMemory.ensures.sources c.in-Err-NoMemory.ensures.broken
+    (rw c.in-Err-NoMemory.field-0-is at (c.in-Err-NoMemory.ensures.little h.0)) h.1

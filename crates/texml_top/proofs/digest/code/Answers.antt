@@ -1,8 +1,9 @@
-use Rattle.std.proofs.Common.{Ok, refl, rules}
+use Rattle.std.proofs.Common.{Ok, refl}
 use Rattle.texml_expand.specs.State.{give}
 use Rattle.texml_assign.proofs.Readings.{lawful_plain, plain_give}
 use Rattle.texml_assign.proofs.Doing.{does_then, does_stop, does_now}
 use Rattle.texml_top.specs.Verb.{verb}
+use Rattle.texml_expand.proofs.Stopping.{passed_on}
 use Rattle.texml_top.proofs.Verbs.{lawful_verb}
 use Rattle.texml_top.proofs.Digesting.{code_ops}
 use Rattle.texml_top.proofs.digest.code.Goals as goal
@@ -11,7 +12,7 @@ pub returns-in_err-text : goal.returns-in_err-text
 returns-in_err-text g c = record {
   does =
       let h = does_stop _ _ verb (λ text n. give (code_ops text)) lawful_verb (λ text. lawful_plain (give (code_ops text)) (plain_give _)) _ _ _ _ _ _ _ c.requires.sound c.in_err-text.ensures.does in
-      search (rules, h);
+      rw (passed_on c.from_residual.result c.in_err-text.field-0.0 c.from_residual.ensures) h;
 }
 
 pub returns : goal.returns

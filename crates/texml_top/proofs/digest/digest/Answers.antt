@@ -1,4 +1,4 @@
-use Rattle.std.proofs.Common.{Err, refl, sym, subst, ◌∙◌, rules, arith}
+use Rattle.std.proofs.Common.{Err, refl, sym, subst, ◌∙◌, arith}
 use Rattle.std.specs.Option.{option_map}
 use Rattle.texml_token.specs.Numbers.{token_at}
 use Rattle.texml_expand.specs.State.{give}
@@ -12,6 +12,7 @@ use Rattle.texml_assign.proofs.Doing.{Goes, does_call, goes_start, goes_stops, g
 use Rattle.texml_top.specs.declared.gather.Gathered.{Gathered}
 use Rattle.texml_top.specs.Gather.{nothing_yet, all_of}
 use Rattle.texml_top.specs.Digest.{digestion}
+use Rattle.texml_expand.proofs.Stopping.{passed_on}
 use Rattle.texml_top.proofs.Digesting.{digestion_laws}
 use Rattle.texml_top.proofs.digest.digest.Goals as goal
 
@@ -27,15 +28,15 @@ pub returns-in_err-token : goal.returns-in_err-token
 returns-in_err-token g c = record {
   does =
       let i = c.tokens.invariant in let run = i.going.running in let f = c.in_err-token.ensures in let mid = c.fetch.new.self in
-      let s = does_call (hears g.T.Teller.wanting g.T.Teller.heard) (hears_part g.T.Teller.wanting g.T.Teller.part) fetch (option_map (token_at mid.names)) (Err c.in_err-token.field-0.0) c.tokens.engine mid _ _ _ _ (f.follows run) (f.stops run) (f.limit run) tt f.progress f.holds tt in
-      let h = goes_stops _ _ digestion digestion_laws _ nothing_yet c.tokens.seen _ _ _ _ _ _ _ _ _ i.going s in search (rules, h);
+      let s = does_call (hears g.T.Teller.wanting g.T.Teller.heard) (hears_part g.T.Teller.wanting g.T.Teller.part) fetch (option_map (token_at mid.names)) (Err c.in_err-token.field-0.0) c.tokens.engine mid _ _ _ _ (f.follows run) (f.spends run) (f.stops run) (f.limit run) tt f.progress f.holds tt in
+      let h = goes_stops _ _ digestion digestion_laws _ nothing_yet c.tokens.seen _ _ _ _ _ _ _ _ _ i.going s in rw (passed_on c.from_residual.result c.in_err-token.field-0.0 c.from_residual.ensures) h;
 }
 
 pub returns-in-None : goal.returns-in-None
 returns-in-None g c = record {
   does =
       let i = c.tokens.invariant in let run = i.going.running in let f = c.in_ok-token.ensures in let mid = c.fetch.new.self in let seen = c.tokens.seen in
-      let s = rw c.in-None.is at (does_call (hears g.T.Teller.wanting g.T.Teller.heard) (hears_part g.T.Teller.wanting g.T.Teller.part) fetch (option_map (token_at mid.names)) _ c.tokens.engine mid _ _ _ _ (f.follows run) (f.stops run) tt (f.keeps run) f.progress f.holds (no_more (f.lower run))) in
+      let s = rw c.in-None.is at (does_call (hears g.T.Teller.wanting g.T.Teller.heard) (hears_part g.T.Teller.wanting g.T.Teller.part) fetch (option_map (token_at mid.names)) _ c.tokens.engine mid _ _ _ _ (f.follows run) (f.spends run) (f.stops run) tt (f.keeps run) f.progress f.holds (no_more (f.lower run))) in
       let e = c.end_of.ensures in let r = c.end_of.result in let new = c.end_of.new.engine in
       goes_ends _ _ digestion digestion_laws r nothing_yet seen _ _ mid new _ _ _ _ _ _ _ _ i.going s (does_local _ _ (give (all_of seen)) (plain_give (all_of seen)) r mid new _ _ s.holds.owns e.gives e.kept e.keeps e.advances e.files e.puts);
 }
@@ -44,16 +45,16 @@ pub returns-in_err-digest_turn : goal.returns-in_err-digest_turn
 returns-in_err-digest_turn g c = record {
   does =
       let i = c.tokens.invariant in let run = i.going.running in let f = c.in_ok-token.ensures in let mid = c.fetch.new.self in let seen = c.tokens.seen in
-      let s = rw c.in-Some.is at (does_call (hears g.T.Teller.wanting g.T.Teller.heard) (hears_part g.T.Teller.wanting g.T.Teller.part) fetch (option_map (token_at mid.names)) _ c.tokens.engine mid _ _ _ _ (f.follows run) (f.stops run) tt (f.keeps run) f.progress f.holds (no_more (f.lower run))) in
+      let s = rw c.in-Some.is at (does_call (hears g.T.Teller.wanting g.T.Teller.heard) (hears_part g.T.Teller.wanting g.T.Teller.part) fetch (option_map (token_at mid.names)) _ c.tokens.engine mid _ _ _ _ (f.follows run) (f.spends run) (f.stops run) tt (f.keeps run) f.progress f.holds (no_more (f.lower run))) in
       let t = token_at mid.names c.in-Some.token in
       let h = goes_turn_stops _ _ digestion digestion_laws t _ nothing_yet seen _ _ mid _ _ _ _ _ _ _ _ _ i.going s c.in_err-digest_turn.ensures.does in
-      search (rules, h);
+      rw (passed_on c.from_residual-in_err-digest_turn.result c.in_err-digest_turn.field-0.0 c.from_residual-in_err-digest_turn.ensures) h;
 }
 
 pub rounds-smaller : goal.rounds-smaller
 rounds-smaller g c =
     let i = c.tokens.invariant in let run = i.going.running in let f = c.in_ok-token.ensures in let mid = c.fetch.new.self in let seen = c.tokens.seen in
-    let s = rw c.in-Some.is at (does_call (hears g.T.Teller.wanting g.T.Teller.heard) (hears_part g.T.Teller.wanting g.T.Teller.part) fetch (option_map (token_at mid.names)) _ c.tokens.engine mid _ _ _ _ (f.follows run) (f.stops run) tt (f.keeps run) f.progress f.holds (no_more (f.lower run))) in
+    let s = rw c.in-Some.is at (does_call (hears g.T.Teller.wanting g.T.Teller.heard) (hears_part g.T.Teller.wanting g.T.Teller.part) fetch (option_map (token_at mid.names)) _ c.tokens.engine mid _ _ _ _ (f.follows run) (f.spends run) (f.stops run) tt (f.keeps run) f.progress f.holds (no_more (f.lower run))) in
     let t = token_at mid.names c.in-Some.token in
     let d = c.in_ok-digest_turn.ensures.does in let far = c.digest_turn.new.engine in let more = c.digest_turn.new.seen in
     let l = rw c.in-Some.is at (f.lower run) in let k = d.shrinks in
@@ -65,7 +66,7 @@ rounds-smaller g c =
 pub tokens-smaller : goal.tokens-smaller
 tokens-smaller g c =
     let i = c.tokens.invariant in let run = i.going.running in let f = c.in_ok-token.ensures in let mid = c.fetch.new.self in let seen = c.tokens.seen in
-    let s = rw c.in-Some.is at (does_call (hears g.T.Teller.wanting g.T.Teller.heard) (hears_part g.T.Teller.wanting g.T.Teller.part) fetch (option_map (token_at mid.names)) _ c.tokens.engine mid _ _ _ _ (f.follows run) (f.stops run) tt (f.keeps run) f.progress f.holds (no_more (f.lower run))) in
+    let s = rw c.in-Some.is at (does_call (hears g.T.Teller.wanting g.T.Teller.heard) (hears_part g.T.Teller.wanting g.T.Teller.part) fetch (option_map (token_at mid.names)) _ c.tokens.engine mid _ _ _ _ (f.follows run) (f.spends run) (f.stops run) tt (f.keeps run) f.progress f.holds (no_more (f.lower run))) in
     let t = token_at mid.names c.in-Some.token in
     let d = c.in_ok-digest_turn.ensures.does in let far = c.digest_turn.new.engine in let more = c.digest_turn.new.seen in
     let l = rw c.in-Some.is at (f.lower run) in let k = d.shrinks in
@@ -76,7 +77,7 @@ tokens-smaller g c =
 pub rounds-preserved : goal.rounds-preserved
 rounds-preserved g c =
     let i = c.tokens.invariant in let run = i.going.running in let f = c.in_ok-token.ensures in let mid = c.fetch.new.self in let seen = c.tokens.seen in
-    let s = rw c.in-Some.is at (does_call (hears g.T.Teller.wanting g.T.Teller.heard) (hears_part g.T.Teller.wanting g.T.Teller.part) fetch (option_map (token_at mid.names)) _ c.tokens.engine mid _ _ _ _ (f.follows run) (f.stops run) tt (f.keeps run) f.progress f.holds (no_more (f.lower run))) in
+    let s = rw c.in-Some.is at (does_call (hears g.T.Teller.wanting g.T.Teller.heard) (hears_part g.T.Teller.wanting g.T.Teller.part) fetch (option_map (token_at mid.names)) _ c.tokens.engine mid _ _ _ _ (f.follows run) (f.spends run) (f.stops run) tt (f.keeps run) f.progress f.holds (no_more (f.lower run))) in
     let t = token_at mid.names c.in-Some.token in
     let d = c.in_ok-digest_turn.ensures.does in let far = c.digest_turn.new.engine in let more = c.digest_turn.new.seen in
     record {
@@ -86,7 +87,7 @@ rounds-preserved g c =
 pub tokens-preserved : goal.tokens-preserved
 tokens-preserved g c =
     let i = c.tokens.invariant in let run = i.going.running in let f = c.in_ok-token.ensures in let mid = c.fetch.new.self in let seen = c.tokens.seen in
-    let s = rw c.in-Some.is at (does_call (hears g.T.Teller.wanting g.T.Teller.heard) (hears_part g.T.Teller.wanting g.T.Teller.part) fetch (option_map (token_at mid.names)) _ c.tokens.engine mid _ _ _ _ (f.follows run) (f.stops run) tt (f.keeps run) f.progress f.holds (no_more (f.lower run))) in
+    let s = rw c.in-Some.is at (does_call (hears g.T.Teller.wanting g.T.Teller.heard) (hears_part g.T.Teller.wanting g.T.Teller.part) fetch (option_map (token_at mid.names)) _ c.tokens.engine mid _ _ _ _ (f.follows run) (f.spends run) (f.stops run) tt (f.keeps run) f.progress f.holds (no_more (f.lower run))) in
     let t = token_at mid.names c.in-Some.token in
     let d = c.in_ok-digest_turn.ensures.does in let far = c.digest_turn.new.engine in let more = c.digest_turn.new.seen in
     let l = rw c.in-Some.is at (f.lower run) in let k = d.shrinks in

@@ -1,4 +1,4 @@
-use Rattle.std.proofs.Common.{sym, ap, rules}
+use Rattle.std.proofs.Common.{sym, ap}
 use Rattle.texml_token.specs.Numbers.{token_at}
 use Rattle.texml_expand.specs.State.{Done, nothing}
 use Rattle.texml_expand.specs.Held.{state_of}
@@ -7,6 +7,7 @@ use Rattle.texml_assign.proofs.Readings.{plain_give}
 use Rattle.texml_assign.proofs.Doing.{does_then, does_stop, does_now, does_out}
 use Rattle.texml_top.specs.Gather.{ops_of}
 use Rattle.texml_top.specs.Digest.{digest_token}
+use Rattle.texml_expand.proofs.Stopping.{passed_on}
 use Rattle.texml_top.proofs.Digesting.{lawful_token, more_seen, lawful_more}
 use Rattle.texml_top.proofs.digest.digest_turn.Goals as goal
 
@@ -15,7 +16,7 @@ returns-in_err-piece g c = record {
   does =
       let t = token_at c.args.engine.now.names c.args.token in let seen = c.args.seen.now in
       let h = does_stop _ _ (digest_token t) (more_seen seen) (lawful_token t) (lawful_more seen) _ _ _ _ _ _ _ c.requires.sound c.in_err-piece.ensures.does in
-      search (rules, h);
+      rw (passed_on c.from_residual.result c.in_err-piece.field-0.0 c.from_residual.ensures) h;
 }
 
 pub returns-in-Ok : goal.returns-in-Ok

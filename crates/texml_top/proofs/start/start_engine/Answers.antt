@@ -1,4 +1,7 @@
 use Rattle.texml_top.proofs.Starting.{starts_on, no_file, no_file_blames, unread_starts, unread_blames, none_open}
+use Rattle.std.proofs.Common.{◌∷◌, ap, ◌∙◌}
+use Rattle.texml_input.specs.Held.{Held as HeldInput, File, fresh_file}
+use Rattle.texml_top.proofs.Amounts.{is_before}
 use Rattle.texml_top.proofs.start.start_engine.Goals as goal
 
 pub returns-in-Ok-None-clause-starts : goal.returns-in-Ok-None-clause-starts
@@ -20,3 +23,14 @@ returns-in-Ok-clause-starts g c =
 
 pub returns-in-Err-push_file-clause-closed : goal.returns-in-Err-push_file-clause-closed
 returns-in-Err-push_file-clause-closed g c = none_open (g.F.Files.shelf c.args.files.now) (g.F.Files.shelf c.open_text.new.files) (g.F.Files.shelf c.close_file.new.self) c.in-Ok-Some.file.id c.requires (rw c.in-Ok-Some.field-0-is at c.in-Ok-Some.ensures.opens).0.ids c.close_file.ensures.closed.ids
+
+pub returns-in-Ok-clause-before : goal.returns-in-Ok-clause-before
+returns-in-Ok-clause-before g c =
+    let f = c.in-Ok-Some.file in
+    is_before _ f.id f.name (ap (λ (i : HeldInput). i.sources) (rw c.input.ensures.value at c.in-Ok.ensures.ok) ∙ ap (λ (i : HeldInput). File (fresh_file f.id f.name) ∷ i.sources) c.in_ok-engine.ensures.input)
+
+pub returns-in-Ok-clause-total : goal.returns-in-Ok-clause-total
+returns-in-Ok-clause-total g c = (rw c.in-Ok-Some.field-0-is at c.in-Ok-Some.ensures.opens).0.total
+
+pub returns-in-Err-push_file-clause-total : goal.returns-in-Err-push_file-clause-total
+returns-in-Err-push_file-clause-total g c = c.close_file.ensures.closed.total ∙ (rw c.in-Ok-Some.field-0-is at c.in-Ok-Some.ensures.opens).0.total

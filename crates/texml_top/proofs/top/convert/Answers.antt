@@ -1,6 +1,7 @@
 use Rattle.texml_expand.proofs.Running.{holding_itself}
 use Rattle.texml_top.proofs.Outcomes.{from_any}
 use Rattle.texml_top.proofs.Ending.{none_written, convert_meets, convert_page, page_late, page_document, page_files, page_limit, convert_stops, silent_page, silent_document, silent_sink, stop_files, stop_limit}
+use Rattle.texml_top.proofs.Amounts.{reads_from, reads_nothing}
 use Rattle.texml_top.proofs.top.convert.Goals as goal
 
 pub returns-in-Ok-digest-clause-meets : goal.returns-in-Ok-digest-clause-meets
@@ -49,3 +50,12 @@ returns-clause-page g c = λ told. rw c.from.ensures (from_any _ _ _ (λ all. si
 
 pub returns-clause-document : goal.returns-clause-document
 returns-clause-document g c = rw c.from.ensures (silent_document c.in-Err-digest.stop _ _ c.in-Err-digest.ensures.does.stops.tells)
+
+pub returns-in-Err-clause-reads : goal.returns-in-Err-clause-reads
+returns-in-Err-clause-reads g c = λ told little. reads_nothing _ _ _ little
+
+pub returns-in-Ok-digest-clause-reads : goal.returns-in-Ok-digest-clause-reads
+returns-in-Ok-digest-clause-reads g c = λ told little. reads_from _ _ _ _ _ _ (c.in-Ok-digest.ensures.does.spends told little)
+
+pub returns-clause-reads : goal.returns-clause-reads
+returns-clause-reads g c = λ told little. reads_from _ _ _ _ _ _ (c.in-Err-digest.ensures.does.spends told little)

@@ -1,9 +1,10 @@
-use Rattle.std.proofs.Common.{IsTrue, map, string_bytes, sym, subst}
+use Rattle.std.proofs.Common.{IsTrue, map, string_bytes, refl, sym, subst}
 use Rattle.texml_top.specs.Request.{asked, read_as}
 use Rattle.texml_top.specs.Run.{FilesBlamed}
 use Rattle.texml_top.specs.declared.status.Status.TheVariants.{Usage}
 use Rattle.texml_top.proofs.Outcomes.{of_words, of_any, with_weaker}
 use Rattle.texml_top.proofs.Ending.{refused_ends, no_lines_by, ends_exactly, usage_page, usage_document, usage_lines, asked_page, asked_document, asked_lines, start_meets, start_sink, start_page, start_document, started}
+use Rattle.texml_top.proofs.Amounts.{reads_not, reads_started}
 use Rattle.texml_top.proofs.top.run.Goals as goal
 
 -- words that are no command line
@@ -112,3 +113,17 @@ close_all-requires g c = rw c.input.ensures.value c.perform-status.ensures.holds
 
 pub returns-clause-closed : goal.returns-clause-closed
 returns-clause-closed g c = c.close_all.ensures.holds.exact (rw c.input.ensures.value c.perform-status.ensures.holds.owns.all)
+
+-- how much is read
+pub returns-in-Err-clause-reads : goal.returns-in-Err-clause-reads
+returns-in-Err-clause-reads g c = λ told. reads_not (asked (map string_bytes c.args.words.now)) (g.F.Files.shelf c.args.files.now).contents (g.F.Files.shelf c.args.files.now) (g.F.Files.shelf c.args.files.now) refl
+
+pub returns-in-Err-start_engine-clause-reads : goal.returns-in-Err-start_engine-clause-reads
+returns-in-Err-start_engine-clause-reads g c = λ told.
+    reads_not (asked (map string_bytes c.args.words.now)) (g.F.Files.shelf c.args.files.now).contents (g.F.Files.shelf c.args.files.now) (g.F.Files.shelf c.start_engine.new.files) c.in-Err-start_engine.ensures.total
+
+pub returns-clause-reads : goal.returns-clause-reads
+returns-clause-reads g c = λ told.
+    let start = c.in-Ok-start_engine.ensures in
+    reads_started (asked (map string_bytes c.args.words.now)) (g.F.Files.shelf c.args.files.now).contents (read_as c.in-Ok.request) (g.F.Files.shelf c.args.files.now) (g.F.Files.shelf c.start_engine.new.files) (g.F.Files.shelf c.perform-status.new.files)
+    (g.F.Files.shelf c.close_all.new.files) c.in-Ok-start_engine.engine c.in-Ok.ensures (start.starts told) start.before start.total (c.perform-status.ensures.reads (subst IsTrue (sym start.same.tells) told) start.before.little) c.close_all.ensures.total

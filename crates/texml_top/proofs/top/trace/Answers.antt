@@ -1,5 +1,6 @@
 use Rattle.texml_watch.specs.Lending.{lent_by}
 use Rattle.texml_top.proofs.Ending.{expand_done, expand_stops, expand_lines, stop_files, stop_sink, stop_limit}
+use Rattle.texml_top.proofs.Amounts.{reads_from}
 use Rattle.texml_top.proofs.top.trace.Goals as goal
 
 pub returns-in-Ok-clause-loan : goal.returns-in-Ok-clause-loan
@@ -28,3 +29,9 @@ returns-clause-limit g c = let d = c.in-Err.ensures.does in rw c.from.ensures (s
 
 pub returns-clause-whole : goal.returns-clause-whole
 returns-clause-whole g c = λ told. expand_lines (lent_by g.S.Sink.ink g.S.Sink.faults) _ _ _ _ _ (c.in-Err.ensures.does.follows told)
+
+pub returns-in-Ok-clause-reads : goal.returns-in-Ok-clause-reads
+returns-in-Ok-clause-reads g c = λ told little. reads_from _ _ _ _ _ _ (c.in-Ok.ensures.does.spends told little)
+
+pub returns-clause-reads : goal.returns-clause-reads
+returns-clause-reads g c = λ told little. reads_from _ _ _ _ _ _ (c.in-Err.ensures.does.spends told little)

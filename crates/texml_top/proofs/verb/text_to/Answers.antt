@@ -1,4 +1,4 @@
-use Rattle.std.proofs.Common.{[], Some, refl, ap, ◌++◌, ◌∙◌, rules, arith}
+use Rattle.std.proofs.Common.{[], Some, refl, ap, ◌++◌, ◌∙◌, arith}
 use Rattle.std.specs.Char.{encode_utf8}
 use Rattle.texml_token.specs.Numbers.{token_at}
 use Rattle.texml_token.specs.declared.fault_code.TheConstants.{FILE_ENDED}
@@ -7,6 +7,7 @@ use Rattle.texml_expand.specs.Hearing.{hears, hears_part}
 use Rattle.texml_assign.specs.Loop.{On, Over}
 use Rattle.texml_assign.proofs.Doing.{does_fault, goes_stops, goes_ends, goes_turn_stops, goes_over, goes_out, goes_on}
 use Rattle.texml_top.specs.Verb.{text_loop}
+use Rattle.texml_expand.proofs.Stopping.{passed_on}
 use Rattle.texml_top.proofs.Verbs.{text_laws, char_over, char_on, turn_does, turn_ends}
 use Rattle.texml_top.proofs.verb.text_to.Goals as goal
 
@@ -14,7 +15,7 @@ pub returns-in_err-token : goal.returns-in_err-token
 returns-in_err-token g c = record {
   does =
       let d = c.args.end in
-      let h = goes_stops _ _ (text_loop d) (text_laws d) _ [] c.tokens.text _ _ _ _ _ _ _ _ _ c.tokens.invariant.going c.in_err-token.ensures.does in search (rules, h);
+      let h = goes_stops _ _ (text_loop d) (text_laws d) _ [] c.tokens.text _ _ _ _ _ _ _ _ _ c.tokens.invariant.going c.in_err-token.ensures.does in rw (passed_on c.from_residual.result c.in_err-token.field-0.0 c.from_residual.ensures) h;
 }
 
 pub returns-in-None : goal.returns-in-None
@@ -32,7 +33,7 @@ returns-in_err-code g c = record {
       let m = c.in_err-code.ensures in
       let h = goes_turn_stops _ _ (text_loop d) (text_laws d) t _ [] seen _ _ mid far _ _ _ _ _ _ _ _ i.going s
       (turn_ends (hears g.T.Teller.wanting g.T.Teller.heard) (hears_part g.T.Teller.wanting g.T.Teller.part) d seen t _ mid far _ _ s.keeps.sound s.holds.owns m.gives m.kept m.is) in
-      search (rules, h);
+      rw (passed_on c.from_residual-in_err-code.result c.in_err-code.field-0.0 c.from_residual-in_err-code.ensures) h;
 }
 
 pub returns-then-code-end : goal.returns-then-code-end

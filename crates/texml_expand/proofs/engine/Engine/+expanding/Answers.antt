@@ -110,7 +110,7 @@ expand-returns-in_err-begin-clause-does g t c =
     let mine = c.args.self.now in
     let d = begins_did (hears T.wanting T.heard) (hears_part T.wanting T.part) _ mine c.begin.new.self (outside (F.shelf c.args.files.now) (F.faults c.args.files.now) (T.faults c.args.tell.now) (T.loan c.args.tell.now)) c.args.tell.now c.requires.sound b.begins b.kept tt tt b.limit b.progress b.files c.requires.owns in
     let h = expand_stops (hears T.wanting T.heard) (hears_part T.wanting T.part) (token_at mine.names c.args.token) (expandable_at mine.names c.args.found) _ _ _ _ _ d in
-    search (rules, h)
+    rw (passed_on c.from_residual.result c.in_err-begin.field-0.0 c.from_residual.ensures) h
 
 pub expand-returns-in_err-gift-clause-does : goal.expand-returns-in_err-gift-clause-does
 expand-returns-in_err-gift-clause-does g t c =
@@ -123,7 +123,7 @@ expand-returns-in_err-gift-clause-does g t c =
     let named = ap (λ (h : Held). token_at h.names c.args.token) (sym b.is) in
     let k = given_as (hears T.wanting T.heard) (hears_part T.wanting T.part) _ (token_at mine.names c.args.token) _ (expandable_at mine.names c.args.found) _ _ _ _ _ _ _ named same c.in_err-gift.ensures.does in
     let h = expand_ungiven (hears T.wanting T.heard) (hears_part T.wanting T.part) (token_at mine.names c.args.token) (expandable_at mine.names c.args.found) _ _ _ _ _ _ _ _ d k in
-    search (rules, h)
+    rw (passed_on c.from_residual-in_err-gift.result c.in_err-gift.field-0.0 c.from_residual-in_err-gift.ensures) h
 
 pub fetch_on-fronts-preserved : goal.fetch_on-fronts-preserved
 fetch_on-fronts-preserved g t c =
@@ -596,7 +596,7 @@ look_by-returns-in_err-internal-clause-does g t c =
     let first = c.looked_at-look.ensures ∙ ap (λ texts. look_of (token_at texts c.args.token) c.in-Ok.meaning Nothing) names ∙ look_at mine.names t c.in-Ok.meaning Nothing in
     let asked = ap (λ l. r (l ∷ [])) (sym first) ∙ c.turn.ensures.is ∙ ap scanned_as c.in-Asked.is in
     let h = look_stops (hears T.wanting T.heard) (hears_part T.wanting T.part) r t m _ _ _ _ _ _ _ c.in-Ok.ensures.means asked c.in_err-internal.ensures.does in
-    search (rules, h)
+    rw (passed_on c.from_residual.result c.in_err-internal.field-0.0 c.from_residual.ensures) h
 
 pub look_by-returns-then-deep-ge-DEEPEST_QUANTITY-clause-does : goal.look_by-returns-then-deep-ge-DEEPEST_QUANTITY-clause-does
 look_by-returns-then-deep-ge-DEEPEST_QUANTITY-clause-does g t c =
@@ -758,7 +758,7 @@ scan-returns-in_err-look-clause-does g t c =
     let d = rw c.in-Some-2.is at c.in_ok-looked.ensures.does in
     let x = looked_at mid.names c.in-Some-2.looked in
     let h = scan_unseen (hears T.wanting T.heard) (hears_part T.wanting T.part) r _ _ _ mid _ _ _ _ _ _ _ _ _ _ _ _ _ x i some d c.in_err-look.ensures.does in
-    search (rules, h)
+    rw (passed_on c.from_residual-in_err-look.result c.in_err-look.field-0.0 c.from_residual-in_err-look.ensures) h
 
 pub scan-returns-in_err-looked-clause-does : goal.scan-returns-in_err-looked-clause-does
 scan-returns-in_err-looked-clause-does g t c =
@@ -971,21 +971,21 @@ compared-returns-in_err-a-clause-does g t c =
     let T = g.T.Teller in
     let F = g.F.Files in
     let h = compared_first (hears T.wanting T.heard) (hears_part T.wanting T.part) c.args.dimensions _ _ _ _ _ _ _ c.in_err-a.ensures.does in
-    search (rules, h)
+    rw (passed_on c.from_residual.result c.in_err-a.field-0.0 c.from_residual.ensures) h
 
 pub compared-returns-in_err-relation-clause-does : goal.compared-returns-in_err-relation-clause-does
 compared-returns-in_err-relation-clause-does g t c =
     let T = g.T.Teller in
     let F = g.F.Files in
     let h = compared_second (hears T.wanting T.heard) (hears_part T.wanting T.part) c.args.dimensions _ _ _ _ _ _ _ c.in_ok-a.ensures.does _ _ _ _ c.in_err-relation.ensures.does in
-    search (rules, h)
+    rw (passed_on c.from_residual-in_err-relation.result c.in_err-relation.field-0.0 c.from_residual-in_err-relation.ensures) h
 
 pub compared-returns-in_err-b-clause-does : goal.compared-returns-in_err-b-clause-does
 compared-returns-in_err-b-clause-does g t c =
     let T = g.T.Teller in
     let F = g.F.Files in
     let h = compared_third (hears T.wanting T.heard) (hears_part T.wanting T.part) c.args.dimensions _ _ _ _ _ _ _ c.in_ok-a.ensures.does _ _ _ _ _ _ _ c.in_ok-relation.ensures.does _ c.in_err-b.ensures.does in
-    search (rules, h)
+    rw (passed_on c.from_residual-in_err-b.result c.in_err-b.field-0.0 c.from_residual-in_err-b.ensures) h
 
 pub compared-returns-clause-does : goal.compared-returns-clause-does
 compared-returns-clause-does g t c =
@@ -1124,21 +1124,21 @@ conditional-returns-in_err-at-clause-does g t c =
     let T = g.T.Teller in
     let F = g.F.Files in
     let h = unopened (hears T.wanting T.heard) (hears_part T.wanting T.part) c.args.test _ _ _ _ _ _ _ (does_silent (hears T.wanting T.heard) (hears_part T.wanting T.part) (λ c'. open_test) lawful_open_test _ c.args.self.now c.open_test.new.self (outside (F.shelf c.args.files.now) (F.faults c.args.files.now) (T.faults c.args.tell.now) (T.loan c.args.tell.now)) c.args.tell.now (c.in_err-at.ensures.opens (F.shelf c.args.files.now)) c.in_err-at.ensures.kept c.in_err-at.ensures.limit c.in_err-at.ensures.keeps c.in_err-at.ensures.progress c.in_err-at.ensures.files c.requires.owns) in
-    search (rules, h)
+    rw (passed_on c.from_residual.result c.in_err-at.field-0.0 c.from_residual.ensures) h
 
 pub conditional-returns-in_err-choice-clause-does : goal.conditional-returns-in_err-choice-clause-does
 conditional-returns-in_err-choice-clause-does g t c =
     let T = g.T.Teller in
     let F = g.F.Files in
     let h = untested (hears T.wanting T.heard) (hears_part T.wanting T.part) c.args.test c.in_ok-at.at _ _ _ _ _ _ (does_silent (hears T.wanting T.heard) (hears_part T.wanting T.part) (λ c'. open_test) lawful_open_test _ c.args.self.now c.open_test.new.self (outside (F.shelf c.args.files.now) (F.faults c.args.files.now) (T.faults c.args.tell.now) (T.loan c.args.tell.now)) c.args.tell.now (c.in_ok-at.ensures.opens (F.shelf c.args.files.now)) c.in_ok-at.ensures.kept c.in_ok-at.ensures.limit c.in_ok-at.ensures.keeps c.in_ok-at.ensures.progress c.in_ok-at.ensures.files c.requires.owns) _ _ _ _ c.in_err-choice.ensures.does in
-    search (rules, h)
+    rw (passed_on c.from_residual-in_err-choice.result c.in_err-choice.field-0.0 c.from_residual-in_err-choice.ensures) h
 
 pub conditional-returns-in_err-chosen-clause-does : goal.conditional-returns-in_err-chosen-clause-does
 conditional-returns-in_err-chosen-clause-does g t c =
     let T = g.T.Teller in
     let F = g.F.Files in
     let h = unchosen (hears T.wanting T.heard) (hears_part T.wanting T.part) c.args.test c.in_ok-at.at _ _ _ _ _ _ (does_silent (hears T.wanting T.heard) (hears_part T.wanting T.part) (λ c'. open_test) lawful_open_test _ c.args.self.now c.open_test.new.self (outside (F.shelf c.args.files.now) (F.faults c.args.files.now) (T.faults c.args.tell.now) (T.loan c.args.tell.now)) c.args.tell.now (c.in_ok-at.ensures.opens (F.shelf c.args.files.now)) c.in_ok-at.ensures.kept c.in_ok-at.ensures.limit c.in_ok-at.ensures.keeps c.in_ok-at.ensures.progress c.in_ok-at.ensures.files c.requires.owns) c.in_ok-choice.choice _ _ _ _ _ _ c.in_ok-choice.ensures.does _ (does_gets (hears T.wanting T.heard) (hears_part T.wanting T.part) (λ c'. chosen c.in_ok-at.at c.in_ok-choice.choice) (lawful_chosen c.in_ok-at.at c.in_ok-choice.choice) _ c.tested.new.self c.chosen.new.self _ _ _ _ (T.faults c.tested.new.tell) (T.loan c.tested.new.tell) c.tested.new.tell c.in_err-chosen.ensures.gets) in
-    search (rules, h)
+    rw (passed_on c.from_residual-in_err-chosen.result c.in_err-chosen.field-0.0 c.from_residual-in_err-chosen.ensures) h
 
 pub conditional-returns-clause-does : goal.conditional-returns-clause-does
 conditional-returns-clause-does g t c =
@@ -1474,7 +1474,7 @@ copy-returns-in_err-begin-clause-does g t c =
     let mine = c.args.self.now in
     let d = begins_did (hears T.wanting T.heard) (hears_part T.wanting T.part) _ mine c.begin.new.self (outside (F.shelf c.args.files.now) (F.faults c.args.files.now) (T.faults c.args.tell.now) (T.loan c.args.tell.now)) c.args.tell.now c.requires.sound b.begins b.kept tt tt b.limit b.progress b.files c.requires.owns in
     let h = copy_stops (hears T.wanting T.heard) (hears_part T.wanting T.part) (token_at mine.names c.args.token) _ _ _ _ _ d in
-    search (rules, h)
+    rw (passed_on c.from_residual.result c.in_err-begin.field-0.0 c.from_residual.ensures) h
 
 pub copy-returns-in_err-internal-clause-does : goal.copy-returns-in_err-internal-clause-does
 copy-returns-in_err-internal-clause-does g t c =
@@ -1484,7 +1484,7 @@ copy-returns-in_err-internal-clause-does g t c =
     let mine = c.args.self.now in
     let d = begins_did (hears T.wanting T.heard) (hears_part T.wanting T.part) _ mine c.begin.new.self (outside (F.shelf c.args.files.now) (F.faults c.args.files.now) (T.faults c.args.tell.now) (T.loan c.args.tell.now)) c.args.tell.now c.requires.sound b.begins b.kept b.is b.within b.limit b.progress b.files c.requires.owns in
     let h = copy_unread (hears T.wanting T.heard) (hears_part T.wanting T.part) (token_at mine.names c.args.token) _ _ _ _ _ _ _ _ d c.in_err-internal.ensures.does in
-    search (rules, h)
+    rw (passed_on c.from_residual-in_err-internal.result c.in_err-internal.field-0.0 c.from_residual-in_err-internal.ensures) h
 
 pub copy-returns-clause-does : goal.copy-returns-clause-does
 copy-returns-clause-does g t c =
@@ -1674,7 +1674,7 @@ expand-returns-in_err-name-clause-does g t c =
     let d = begins_did (hears T.wanting T.heard) (hears_part T.wanting T.part) _ mine c.begin.new.self (outside (F.shelf c.args.files.now) (F.faults c.args.files.now) (T.faults c.args.tell.now) (T.loan c.args.tell.now)) c.args.tell.now c.requires.sound b.begins b.kept b.is b.within b.limit b.progress b.files c.requires.owns in
     let is = ap (expandable_at mine.names) (c.opens_file.ensures.yes c.if-opens_file.true) in
     let h = expand_same (hears T.wanting T.heard) (hears_part T.wanting T.part) (token_at mine.names c.args.token) Input _ _ _ _ _ _ _ _ (sym is) (expand_unnamed (hears T.wanting T.heard) (hears_part T.wanting T.part) (token_at mine.names c.args.token) _ _ _ _ _ _ _ _ d c.in_err-name.ensures.does) in
-    search (rules, h)
+    rw (passed_on c.from_residual-in_err-name.result c.in_err-name.field-0.0 c.from_residual-in_err-name.ensures) h
 
 pub expand-returns-then-opens_file-clause-does : goal.expand-returns-then-opens_file-clause-does
 expand-returns-then-opens_file-clause-does g t c =

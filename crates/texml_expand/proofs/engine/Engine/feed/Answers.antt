@@ -1,7 +1,8 @@
-use Rattle.std.proofs.Common.{rules, arith, ap}
+use Rattle.std.proofs.Common.{rules, arith, ap, refl}
 use Rattle.texml_expand.specs.Held.{Held}
 use Rattle.texml_expand.proofs.Stopping.{passed_on}
-use Rattle.texml_expand.proofs.Fed.{feeding_none, fed_by, feeding_stops, stops_runs, feeding_more, feeding_settled, feeding_fed, feeding_runs, feeding_refuses, refuses_runs, out_runs}
+use Rattle.texml_expand.proofs.Fed.{feeding_none, fed_by, feeding_stops, stops_runs, feeding_more, feeding_settled, feeding_fed, feeding_runs, feeding_refuses, refuses_runs, out_runs, feeding_pays, stops_pays, out_pays}
+use Rattle.texml_expand.proofs.Running.{files_same, files_stopped}
 use Rattle.texml_expand.proofs.engine.Engine.feed.Goals as goal
 
 pub tokens-init : goal.tokens-init
@@ -63,3 +64,26 @@ pub returns-in-Err-clause-runs : goal.returns-in-Err-clause-runs
 returns-in-Err-clause-runs g c =
     out_runs (g.D.Feeder.judge c.args.feeder.now) (g.D.Feeder.judge c.tokens.feeder) c.args.self.now c.tokens.self c.inner_token.new.self c.no_memory.new.self _ _ _ _ c.no_memory.result c.tokens.invariant c.in_ok-token.ensures.gets
     c.no_memory.ensures.is c.no_memory.ensures.kept
+
+pub returns-in_err-token-clause-spends : goal.returns-in_err-token-clause-spends
+returns-in_err-token-clause-spends g c =
+    let e = c.in_err-token.field-0.0 in
+    rw (passed_on c.from_residual.result e c.from_residual.ensures)
+    (stops_pays (g.D.Feeder.judge c.args.feeder.now) (g.D.Feeder.judge c.tokens.feeder) c.args.self.now c.tokens.self c.inner_token.new.self _ _ _ e c.tokens.invariant c.in_err-token.ensures.gets)
+
+pub returns-in-Ok-Yields-clause-spends : goal.returns-in-Ok-Yields-clause-spends
+returns-in-Ok-Yields-clause-spends g c =
+    feeding_pays (g.D.Feeder.judge c.args.feeder.now) (g.D.Feeder.judge c.tokens.feeder) (g.D.Feeder.judge c.feed.new.self) c.args.self.now c.tokens.self c.inner_token.new.self _ _ _ c.in_ok-token.token c.in-Ok-Yields.field-0
+    c.tokens.invariant c.in_ok-token.ensures.gets c.in_ok-token.ensures.lower c.in_ok-token.ensures.within
+    (fed_by _ _ _ _ _ _ (ap (λ (h : Held). h.names) c.self.view_is) c.in-Ok-Yields.ensures) _ _ (files_same c.inner_token.new.self c.inner_token.new.self refl)
+
+pub returns-in-Ok-Refuses-clause-spends : goal.returns-in-Ok-Refuses-clause-spends
+returns-in-Ok-Refuses-clause-spends g c =
+    feeding_pays (g.D.Feeder.judge c.args.feeder.now) (g.D.Feeder.judge c.tokens.feeder) (g.D.Feeder.judge c.feed.new.self) c.args.self.now c.tokens.self c.inner_token.new.self _ _ _ c.in_ok-token.token c.in-Ok-Refuses.field-0
+    c.tokens.invariant c.in_ok-token.ensures.gets c.in_ok-token.ensures.lower c.in_ok-token.ensures.within
+    (fed_by _ _ _ _ _ _ (ap (λ (h : Held). h.names) c.self.view_is) c.in-Ok-Refuses.ensures) _ _ (files_stopped c.inner_token.new.self c.bare_fault.new.self c.bare_fault.result c.bare_fault.ensures.kept)
+
+pub returns-in-Err-clause-spends : goal.returns-in-Err-clause-spends
+returns-in-Err-clause-spends g c =
+    out_pays (g.D.Feeder.judge c.args.feeder.now) (g.D.Feeder.judge c.tokens.feeder) c.args.self.now c.tokens.self _ _ c.tokens.invariant c.inner_token.new.self c.no_memory.new.self _ _ c.no_memory.result c.in_ok-token.ensures.gets
+    c.no_memory.ensures.kept

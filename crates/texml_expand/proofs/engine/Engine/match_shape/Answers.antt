@@ -4,6 +4,7 @@ use Rattle.texml_match.specs.Reading.{Wants}
 use Rattle.texml_match.specs.Left.{left, Says, Reads}
 use Rattle.texml_expand.specs.Held.{Held}
 use Rattle.texml_expand.proofs.Matching.{matching_none, matching_gives, matched_by, matching_fails, matching_out, matching_more, matching_stops, reads_now}
+use Rattle.texml_expand.proofs.Stopping.{passed_on}
 use Rattle.texml_expand.proofs.engine.Engine.match_shape.Goals as goal
 
 pub tokens-init : goal.tokens-init
@@ -14,7 +15,7 @@ tokens-init g c =
 pub returns-in_err-token-clause-gets : goal.returns-in_err-token-clause-gets
 returns-in_err-token-clause-gets g c =
     let h = matching_stops c.args.shape.now c.args.self.now _ c.tokens.matcher c.tokens.self _ _ _ c.in_err-token.field-0.0 c.tokens.invariant c.in_err-token.ensures.gets in
-    search (rules, h)
+    rw (passed_on c.from_residual.result c.in_err-token.field-0.0 c.from_residual.ensures) h
 
 pub feed-requires-clause-reads : goal.feed-requires-clause-reads
 feed-requires-clause-reads g c =

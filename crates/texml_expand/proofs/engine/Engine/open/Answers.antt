@@ -1,11 +1,11 @@
-use Rattle.std.proofs.Common.{◌≡◌, ◌∙◌, Some, length, subst, sym}
+use Rattle.std.proofs.Common.{◌≡◌, ◌∙◌, refl, Some, length, subst, sym}
 use Rattle.texml_token.specs.Numbers.{token_at}
 use Rattle.texml_input.specs.Held.{ids_of}
 use Rattle.texml_expand.specs.declared.stop.Stop.TheVariants as stop
 use Rattle.texml_expand.specs.Hearing.{hears, hears_part}
 use Rattle.texml_expand.specs.Held.{Held, Sound, Owns}
 use Rattle.texml_expand.specs.contracts.engine.Engine.{the_view}
-use Rattle.texml_expand.proofs.Opening.{too_many, one_more, tells_full, tells_missing, tells_short, tells_refused, tells_opened}
+use Rattle.texml_expand.proofs.Opening.{too_many, one_more, tells_full, tells_missing, tells_unread, tells_short, tells_refused, tells_opened}
 use Rattle.texml_expand.proofs.engine.Engine.open.Goals as goal
 
 pub returns-then-files_open-ge-MOST_FILES-clause-tells : goal.returns-then-files_open-ge-MOST_FILES-clause-tells
@@ -60,3 +60,11 @@ returns-clause-tells g c =
     c.in-Ok-Some.file.name c.in-Ok-Some.file.id owns opens.0 c.tell_of.result c.tell_of.new.self (g.F.Files.faults c.args.files.now) (g.F.Files.faults c.open_text.new.files)
     (T.faults c.args.tell.now) (T.faults c.tell_of.new.tell) (T.loan c.args.tell.now) (T.loan c.tell_of.new.tell) c.args.tell.now c.tell_of.new.tell
     (one_more h before c.files_open.result c.files_open.ensures c.if-files_open-ge-MOST_FILES.false) opens.1 sound c.in-Ok-Some.ensures.cause.kept e.told e.stops e.same e.progress e.limit e.files)
+
+pub returns-in-Err-Failed-clause-tells : goal.returns-in-Err-Failed-clause-tells
+returns-in-Err-Failed-clause-tells g c =
+    let T = g.T.Teller in
+    let h = c.args.self.now in
+    tells_unread (hears T.wanting T.heard) (hears_part T.wanting T.part) c.args.name.now (token_at h.names c.args.token) h c.stop_with.new.self (g.F.Files.shelf c.args.files.now) (g.F.Files.shelf c.open_text.new.files)
+    (g.F.Files.faults c.args.files.now) (g.F.Files.faults c.open_text.new.files) (T.faults c.args.tell.now) (T.loan c.args.tell.now) c.args.tell.now c.requires.owns c.in-Err-Failed.ensures.opens
+    ((rw c.in-Err-Failed.field-0-is at c.in-Err-Failed.ensures.cause).failed refl) c.stop_with.ensures

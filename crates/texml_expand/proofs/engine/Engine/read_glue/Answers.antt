@@ -32,3 +32,14 @@ unreachable-requires g c =
     let same : (xs : List Look) → machine_rest (machines.Glue c.new.result) xs ≡ mapped worths.Glue (glue_text xs) = λ xs. ap (mapped worths.Glue) (c.new.ensures xs) in
     let h = scan_gives worths.Glue (machine_rest (machines.Glue c.new.result)) glue_text same _ c.in_ok-value.ensures.gives in
     c.in_default.not-Glue h.value h.is
+
+pub returns-clause-spends : goal.returns-clause-spends
+returns-clause-spends g c = λ running.
+    let same : (xs : List Look) → machine_rest (machines.Glue c.new.result) xs ≡ mapped worths.Glue (glue_text xs) = λ xs. ap (mapped worths.Glue) (c.new.ensures xs) in
+    (scan_of _ _ worths.Glue (machine_rest (machines.Glue c.new.result)) glue_text same c.in-Glue.value c.in_ok-value.field-0 _ _ _ _ _ _ c.in-Glue.is glue_same c.in_ok-value.ensures.does).spends
+
+pub returns-in_err-value-clause-spends : goal.returns-in_err-value-clause-spends
+returns-in_err-value-clause-spends g c = λ running.
+    let same : (xs : List Look) → machine_rest (machines.Glue c.new.result) xs ≡ mapped worths.Glue (glue_text xs) = λ xs. ap (mapped worths.Glue) (c.new.ensures xs) in
+    let h = (scan_stop _ _ worths.Glue (machine_rest (machines.Glue c.new.result)) glue_text same _ _ _ _ _ _ _ c.in_err-value.ensures.does).spends in
+    search (rules, h)

@@ -23,3 +23,14 @@ unreachable-requires g c =
     let same : (xs : List Look) → machine_rest (machines.Keyword c.new.result) xs ≡ mapped worths.Found (keyword_text c.args.word.now xs) = λ xs. ap (mapped worths.Found) (c.new.ensures xs) in
     let h = scan_gives worths.Found (machine_rest (machines.Keyword c.new.result)) (keyword_text c.args.word.now) same _ c.in_ok-found.ensures.gives in
     c.in_default.not-Found h.value h.is
+
+pub returns-clause-spends : goal.returns-clause-spends
+returns-clause-spends g c = λ running.
+    let same : (xs : List Look) → machine_rest (machines.Keyword c.new.result) xs ≡ mapped worths.Found (keyword_text c.args.word.now xs) = λ xs. ap (mapped worths.Found) (c.new.ensures xs) in
+    (scan_of _ _ worths.Found (machine_rest (machines.Keyword c.new.result)) (keyword_text c.args.word.now) same c.in-Found.found c.in_ok-found.field-0 _ _ _ _ _ _ c.in-Found.is found_same c.in_ok-found.ensures.does).spends
+
+pub returns-in_err-found-clause-spends : goal.returns-in_err-found-clause-spends
+returns-in_err-found-clause-spends g c = λ running.
+    let same : (xs : List Look) → machine_rest (machines.Keyword c.new.result) xs ≡ mapped worths.Found (keyword_text c.args.word.now xs) = λ xs. ap (mapped worths.Found) (c.new.ensures xs) in
+    let h = (scan_stop _ _ worths.Found (machine_rest (machines.Keyword c.new.result)) (keyword_text c.args.word.now) same _ _ _ _ _ _ _ c.in_err-found.ensures.does).spends in
+    search (rules, h)

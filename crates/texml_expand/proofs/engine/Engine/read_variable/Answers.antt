@@ -42,3 +42,26 @@ returns-clause-within g c = λ running.
     let n = c.in_ok-number.number in
     let fits = subst (λ i. HasNumber i n) c.index_of.ensures c.in_ok-number.ensures.fits in
     subst (KeyWithin (length names)) (sym c.key_of.ensures) (key_within (length names) c.args.variable n fits)
+
+pub returns-clause-spends : goal.returns-clause-spends
+returns-clause-spends g c = λ running.
+    let T = g.T.Teller in
+    let F = g.F.Files in
+    let new = c.index.new.self in
+    let tell = c.index.new.tell in
+    let files = c.index.new.files in
+    let v = c.args.variable in
+    let n = c.in_ok-number.number in
+    let i = c.in_ok-number.ensures.does in
+    let d = index_as _ _ _ (index_of v) _ _ _ _ _ _ _ (sym c.index_of.ensures) i in
+    let same = ap (key_at new.names) c.key_of.ensures ∙ key_same new.names v n in
+    let k = does_then (hears T.wanting T.heard) (hears_part T.wanting T.part) (λ c. read_index c (index_of v)) (λ n c. give (key_of v n)) (lawful_index (index_of v)) (λ n. lawful_give (key_of v n)) n _ _ _ _ _ _ _ _ _ _ d
+    (does_now (hears T.wanting T.heard) (hears_part T.wanting T.part) (key_of v n) new (outside (F.shelf files) (F.faults files) (T.faults tell) (T.loan tell)) tell i.keeps.sound i.stops.kept i.holds.owns) in
+    rw same k.spends
+
+pub returns-in_err-number-clause-spends : goal.returns-in_err-number-clause-spends
+returns-in_err-number-clause-spends g c = λ running.
+    let v = c.args.variable in
+    let d = index_as _ _ _ (index_of v) _ _ _ _ _ _ _ (sym c.index_of.ensures) c.in_err-number.ensures.does in
+    let h = (does_stop _ _ (λ c. read_index c (index_of v)) (λ n c. give (key_of v n)) (lawful_index (index_of v)) (λ n. lawful_give (key_of v n)) _ _ _ _ _ _ _ d).spends in
+    search (rules, h)
