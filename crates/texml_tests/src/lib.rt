@@ -12,6 +12,8 @@ mod cond;
 #[cfg(test)]
 mod html;
 #[cfg(test)]
+mod input;
+#[cfg(test)]
 mod scope;
 #[cfg(test)]
 mod small;
