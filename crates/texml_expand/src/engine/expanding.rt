@@ -450,10 +450,11 @@ impl Engine {
         ensures files { SameFiles self.old self.new }
     {
         if tell.wants() {
-            return match fill(self.alloc, body.as_slice(), args.as_slice()) {
-                Ok(list) => self.finish(tell, token, &list),
-                Err(_) => Err(self.no_memory()),
+            let list = match fill(self.alloc, body.as_slice(), args.as_slice()) {
+                Ok(list) => list,
+                Err(_) => return Err(self.no_memory()),
             };
+            return self.finish(tell, token, &list);
         }
         match self.input.push_macro(body, args) {
             Ok(()) => {
