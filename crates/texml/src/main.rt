@@ -6,9 +6,11 @@
 //! texml_top, whose `run` says what a status means.
 #![tactic(auto)]
 
+mod command_line;
 mod program;
 mod words;
 
+use command_line::SystemWords;
 use program::run_words;
 use std::process::ExitCode;
 use texml_base::{DiskFiles, StreamSink};
@@ -16,7 +18,7 @@ use words::read_words;
 
 fn main(rt: HostRuntime) -> ExitCode {
     let alloc = rt.alloc();
-    let words = read_words(alloc, &rt);
+    let words = read_words(alloc, &SystemWords(&rt));
     let mut files = DiskFiles::new(alloc, &rt);
     let mut out = StreamSink::new(rt.stdout());
     let mut notes = StreamSink::new(rt.stderr());

@@ -1,3 +1,4 @@
+use crate::command_line::SystemWords;
 use crate::program::run_words;
 use crate::words::{WordsFault, read_words};
 use std::alloc::Global;
@@ -6,7 +7,7 @@ use std::rt::Env;
 use std::test::Fail;
 use texml_base::{CalmSink, MemoryFiles, MemorySink};
 
-// A command line, with the program's name in front.
+// A command line, with the program's name in front. Its word `long` is longer than any room.
 #[derive(Drop)]
 struct CommandLine<'a>(&'a [&'a [u8]]);
 
@@ -16,7 +17,7 @@ impl Env for CommandLine<'_> {
             Some(word) => *word,
             None => return Err(FillError::NotPresent),
         };
-        if buf.len() < word.len() {
+        if buf.len() < word.len() || word == b"long".as_slice() {
             return Err(FillError::TooLong);
         }
         buf[..word.len()].copy_from_slice(word);
@@ -33,15 +34,18 @@ impl Env for CommandLine<'_> {
 }
 
 #[test]
-fn word_that_is_no_text_is_told_by_its_place(rt: HostRuntime) -> Result<(), Fail> {
-    let rows: [(&[&[u8]], u8); 4] = [
+fn word_that_cannot_be_read_is_told_by_its_place(rt: HostRuntime) -> Result<(), Fail> {
+    let rows: [(&[&[u8]], u8); 7] = [
         (&[b"texml", b"\xff", b"a.tex"], 1),
         (&[b"texml", b"convert", b"\xc3", b"a.tex"], 2),
         (&[b"texml", b"convert", b"a.tex", b"\x80"], 2),
         (&[b"\xff", b"convert", b"a.tex"], 0),
+        (&[b"texml", b"long"], 1),
+        (&[b"texml", b"convert", b"a.tex", b"long"], 2),
+        (&[b"texml", b"\xff", b"long"], 1),
     ];
     for (words, want) in rows {
-        let which = match read_words(rt.alloc(), &CommandLine(words)) {
+        let which = match read_words(rt.alloc(), &SystemWords(&CommandLine(words))) {
             Ok(_) => 0,
             Err(WordsFault::NotText(which)) => which,
             Err(WordsFault::NoMemory) => 9,
@@ -62,7 +66,7 @@ fn exit_of(
     let mut files = MemoryFiles::new(alloc, 4096, fail_call);
     files.add(alloc, "a.tex", text.as_bytes())?;
     let mut out = MemorySink::new(alloc, room, 0)?;
-    let read = read_words(alloc, &CommandLine(words));
+    let read = read_words(alloc, &SystemWords(&CommandLine(words)));
     Ok(run_words(alloc, read, &mut files, &mut out, &mut CalmSink::new()))
 }
 

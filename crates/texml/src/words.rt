@@ -1,19 +1,20 @@
 //! The words of the command line.
-ghost use Rattle.std.specs.Prelude.{◌≡◌, map, vec_items};
+ghost use Rattle.std.specs.Prelude.{◌≡◌, ◌<◌, length, drop, IfSome, IfOk};
 ghost use Rattle.texml.specs.declared.words.WordsFault.TheVariants.{NoMemory};
-ghost use Rattle.texml.specs.Words.{IsTextOf, AreTextsOf};
+ghost use Rattle.texml.specs.Words.{longest, broken_at, IsTextOf, IsTextAt, AreTextsOf};
 
+use crate::command_line::CommandLine;
 use std::alloc::{AllocError, AllocFailed, Global};
-use std::rt::Env;
+use std::env::FillError;
 use std::str;
 
-// The longest word that the system passes to a program, in bytes.
+// The longest word that is read, in bytes: on most systems none that is longer is passed to a program.
 const LONGEST_WORD: usize = 1 << 17;
 
 /// Why there are no words.
 #[derive(Debug, Drop)]
 pub enum WordsFault {
-    /// One of them is no UTF-8: 1, the first; 2, one behind it.
+    /// One of them is no UTF-8 or longer than 131072 bytes: 1, the first; 2, one behind it.
     NotText(u8),
     /// Memory was refused.
     NoMemory,
@@ -39,36 +40,48 @@ impl<T: Drop> From<AllocFailed<T>> for WordsFault {
 ///
 /// # Errors
 ///
-/// `NotText` where one of them is no UTF-8, and `NoMemory` where memory was refused.
-pub fn read_words(alloc: Global, env: &impl Env) -> Result<Vec<String>, WordsFault> {
-    texts_of(alloc, &words_of(alloc, env)?)
-}
-
-// The words after the program's name, as bytes.
-fn words_of(alloc: Global, env: &impl Env) -> Result<Vec<Vec<u8>>, AllocError> {
-    let mut words = Vec::new(alloc);
-    let mut word = vec![in alloc; 0u8; LONGEST_WORD]?;
-    for i in 1..usize::MAX {
-        let Ok(count) = env.arg(i, &mut word) else {
-            break;
-        };
-        words.push(word[..count].to_vec(alloc)?)?;
-    }
-    Ok(words)
-}
-
-// The words as texts.
-fn texts_of(alloc: Global, words: &[Vec<u8>]) -> Result<Vec<String>, WordsFault>
-    ensures { AreTextsOf (map vec_items words.now) result }
+/// `NotText` with the first word that is no UTF-8 or longer than 131072 bytes, and `NoMemory` where memory was refused.
+pub fn read_words<L: CommandLine>(alloc: Global, line: &L) -> Result<Vec<String>, WordsFault>
+    ensures { IfSome (L.told line.now) (λ words. AreTextsOf (drop 1 words) result) }
 {
     let mut texts = Vec::new(alloc);
-    for (at, word) in words.iter().enumerate() {
-        match text_of(alloc, word, at) {
-            Ok(text) => texts.push(text)?,
+    let mut room = word_room(alloc)?;
+    for at in 0..usize::MAX {
+        match text_at(alloc, line, at, &mut room) {
+            Ok(Some(text)) => texts.push(text)?,
+            Ok(None) => return Ok(texts),
             Err(fault) => return Err(fault),
         }
     }
-    Ok(texts)
+    Err(WordsFault::NoMemory)
+}
+
+// Room for a word.
+fn word_room(alloc: Global) -> Result<Vec<u8>, AllocError>
+    ensures { IfOk result (λ room. length room.items ≡ longest) }
+{
+    vec![in alloc; 0u8; LONGEST_WORD]
+}
+
+// The word at a place behind the program's name as a text, or None behind the last one. The word is read into `room`.
+fn text_at<L: CommandLine>(
+    alloc: Global,
+    line: &L,
+    at: usize,
+    room: &mut [u8],
+) -> Result<Option<String>, WordsFault>
+    requires below { at < usize.MAX }
+    requires room { length room.old ≡ longest }
+    ensures { IfSome (L.told line.now) (λ words. IsTextAt (drop 1 words) at result) }
+{
+    match line.word(at + 1, room) {
+        Ok(count) => match text_of(alloc, &room[..count], at) {
+            Ok(text) => Ok(Some(text)),
+            Err(fault) => Err(fault),
+        },
+        Err(FillError::NotPresent) => Ok(None),
+        Err(FillError::TooLong) => Err(WordsFault::NotText(broken_at(at))),
+    }
 }
 
 // The word at a place as a text.
@@ -77,7 +90,13 @@ fn text_of(alloc: Global, word: &[u8], at: usize) -> Result<String, WordsFault>
 {
     match str::from_utf8(word) {
         Ok(text) => Ok(String::from_str(alloc, text)?),
-        Err(_) if at == 0 => Err(WordsFault::NotText(1)),
-        Err(_) => Err(WordsFault::NotText(2)),
+        Err(_) => Err(WordsFault::NotText(broken_at(at))),
     }
+}
+
+// How words are wrong where the one at this place can't be read.
+fn broken_at(at: usize) -> u8
+    ensures { result ≡ broken_at at }
+{
+    if at == 0 { 1 } else { 2 }
 }

@@ -61,7 +61,7 @@ back_lower t frozen s u l = record {
 
 if_sign_leads : (b : Bool) (x : Taken) (s t : State) → Takes 1 s t → Leads (λ found u. Lower 0 s u) ((if b then give true else no_sign x) t)
 if_sign_leads true x s t g = lower_less 1 s t g.lower
-if_sign_leads false x s t g = back_lower x.token x.frozen s t g.lower
+if_sign_leads false x s t g = back_lower x.token false s t g.lower
 
 sign_back_leads : (code : ℕ) (s : State) (o : Option Taken) (t : State) → Takes (count o) s t → Leads (λ found u. Lower 0 s u) (sign_or_back code o t)
 sign_back_leads code s None t g = g.lower

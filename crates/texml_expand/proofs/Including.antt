@@ -28,7 +28,7 @@ use Rattle.texml_expand.proofs.Lawful.{By, Lawful, lawful_silent, lawful_give, l
 
 pub returned_lower : (o : Option Taken) (s t : State) → Lower (count o) s t → Lower 0 s (returned o t)
 returned_lower None s t l = l
-returned_lower (Some x) s t l = back_lower x.token x.frozen s t l
+returned_lower (Some x) s t l = back_lower x.token false s t l
 
 -- it goes back, and is known
 abbrev pub known : Option Taken → Reading (Option Taken)

@@ -65,10 +65,10 @@ abbrev pub is_sign : ℕ → Token → Bool
 is_sign code (Char c category) = c == code && category == OTHER
 is_sign code t = false
 
--- another token goes back as it was
+-- another token goes back, and may be expanded from then on
 abbrev pub no_sign : Taken → Reading Bool
 no_sign t = do
-  change (back t.token t.frozen)
+  change (back t.token false)
   give false
 
 abbrev pub sign_or_back : ℕ → Option Taken → Reading Bool

@@ -70,10 +70,10 @@ plain_name calls = do
   list ← calls.gather FileName []
   give (bytes_of list)
 
--- a token goes back as it was
+-- a token goes back, and may be expanded from then on
 abbrev pub returned : Option Taken → State → State
 returned None s = s
-returned (Some t) s = back t.token t.frozen s
+returned (Some t) s = back t.token false s
 
 abbrev pub begins_group : Option Taken → Bool
 begins_group None = false

@@ -4,6 +4,7 @@ pub mod Reading
 pub mod Sources
 pub mod Standing
 pub mod InFront
+pub mod Plain
 pub mod Onward
 pub mod Turns
 pub mod Emptied

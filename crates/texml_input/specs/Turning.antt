@@ -1,11 +1,12 @@
 -- Only contracts of private functions need these: one turn at the front of a rest.
-use Rattle.std.specs.Prelude.{◌≡◌, ◌≤◌, ℕ, ◌+◌, true, false, List, [], ◌∷◌, ◌++◌, map, Option, Result, Ok, Err}
+use Rattle.std.specs.Prelude.{◌≡◌, ◌≤◌, ℕ, ◌+◌, true, false, List, [], ◌∷◌, ◌++◌, map, length, Option, Some, None, Result, Ok, Err}
 use Rattle.texml_token.specs.Token.{Token}
 use Rattle.texml_token.specs.Numbers.{Table, token_at, TokenWithin}
 use Rattle.texml_input.specs.Rest.{Item, Place}
 use Rattle.texml_input.specs.Next.{Got, AtEnd, Invalid, NotUtf8, behind, bytes_of, taken, next}
 use Rattle.texml_token.specs.declared.tokens.Token.{Token as TokenCode}
-use Rattle.texml_input.specs.Held.{Source, Plain, IsAtFence}
+use Rattle.texml_mouth.specs.Mouth.{Spot, Gives, bites}
+use Rattle.texml_input.specs.Held.{Opened, Source, Plain, File, IsAtFence}
 use Rattle.texml_input.specs.declared.fault.InputFault.{InputFault}
 use Rattle.texml_input.specs.declared.fault.InputFault.TheVariants as fault
 use Rattle.texml_input.specs.declared.turning.Turn.{Turn}
@@ -68,3 +69,19 @@ TakesList tokens more turn.Again after = (tokens ≡ []) × (after ≡ more)
 TakesList tokens more turn.Loaded after = ⊥
 TakesList tokens more turn.Ended after = ⊥
 TakesList tokens more turn.End after = ⊥
+
+-- a token is taken from the line of the file in front, which names have no part in
+pub record TakesToken (cats : ℕ → ℕ) (old : List Source) (t : TokenCode) (new : List Source) : Type 0 where
+  pub file : Opened
+  pub spot : Spot
+  pub more : List Source
+  pub was : old ≡ File file ∷ more
+  pub is : new ≡ File (record file { spot = spot }) ∷ more
+  pub gives : (texts : Table) → bites cats file.spot ≡ Gives (token_at texts t) spot
+  pub lower : length spot.tail + 1 ≤ length file.spot.tail
+  pub given : TokenWithin 0 t
+
+-- such a token is taken, or nothing changes
+abbrev pub TakesPlain : (ℕ → ℕ) → List Source → Option TokenCode → List Source → Type 0
+TakesPlain cats old (Some t) new = TakesToken cats old t new
+TakesPlain cats old None new = new ≡ old

@@ -1,7 +1,8 @@
 //! A file that is being read line by line.
-ghost use Rattle.std.specs.Prelude.{◌≡◌, ◌≤◌, ◌+◌, [], length, None, IsTrue, IfOk, IfSome, OnOk, OnErr, true, false, option_to_list};
+ghost use Rattle.std.specs.Prelude.{◌≡◌, ◌≤◌, ◌+◌, [], length, None, IsTrue, MatchOption, IfOk, IfSome, OnOk, OnErr, true, false, option_to_list};
 ghost use Rattle.texml_base.specs.Outside.{in_use};
-ghost use Rattle.texml_token.specs.Numbers.{Extends, Numbered, TokenWithin};
+ghost use Rattle.texml_token.specs.Numbers.{Table, token_at, Extends, Numbered, TokenWithin};
+ghost use Rattle.texml_mouth.specs.Mouth.{bites, Gives};
 ghost use Rattle.texml_text.specs.File.{character};
 ghost use Rattle.texml_text.specs.Reader.{Touches, Spends, HasLineCause, block};
 ghost use Rattle.texml_input.specs.Held.{fresh_file, rows_of, page_of, file_room};
@@ -84,6 +85,16 @@ impl OpenFile {
         ensures { self.new ≡ record self.old { ended = true } }
     {
         self.ended = true;
+    }
+
+    // The next token of its line last loaded, where one character tells it; else nothing changes.
+    pub fn plain_token<C: Codes>(&mut self, codes: &C) -> Option<Token>
+        ensures bites { IfSome result (λ t. (texts : Table) → bites (C.cats codes.now) self.old.spot ≡ Gives (token_at texts t) self.new.spot) }
+        ensures same { MatchOption result (self.new ≡ self.old) (λ _. self.new ≡ record self.old { spot = self.new.spot }) }
+        ensures lower { length self.new.spot.tail + length (option_to_list result) ≤ length self.old.spot.tail }
+        ensures given { IfSome result (TokenWithin 0) }
+    {
+        self.mouth.next_plain(codes)
     }
 
     // The next token of its line last loaded.

@@ -5,11 +5,11 @@ ghost use Rattle.texml_scope.specs.Shown.{world_of};
 ghost use Rattle.texml_input.specs.Codes.{cats_of, end_of};
 ghost use Rattle.texml_input.specs.Rest.{no_place};
 ghost use Rattle.texml_input.specs.Next.{place_at, next};
-ghost use Rattle.texml_input.specs.Held.{File, ids_of, fences_of, aside_of, AreHeld, AreSound, AreLittle, SourcesWithin, rest_at, room_of, front_size};
+ghost use Rattle.texml_input.specs.Held.{File, Plain, ids_of, fences_of, aside_of, AreHeld, AreSound, AreLittle, SourcesWithin, rest_at, room_of, front_size};
 ghost use Rattle.texml_input.specs.Keeping.{Holds, Spends, HasInputCause};
 ghost use Rattle.texml_input.specs.Answers.{given_at, GivenWithin, IsNext, LittleAfter, Loads, EndsAtFence};
 ghost use Rattle.texml_input.specs.Inside.{sources_of, written};
-ghost use Rattle.texml_input.specs.Turning.{TakesList, Turns, turn_bytes, TurnFalls, TurnWithin, TurnEnds};
+ghost use Rattle.texml_input.specs.Turning.{TakesList, TakesPlain, Turns, turn_bytes, TurnFalls, TurnWithin, TurnEnds};
 
 use crate::codes::{ScopeCodes, end_character};
 use crate::fault::{InputFault, Read};
@@ -142,8 +142,122 @@ pub fn next_read<F: Files>(
     }
 }
 
-// A turn at the front of the frames, of which the last stands in front.
+// A turn at the front of the frames, of which the last stands in front. A token that can be taken where its frame stands is taken
+// there, so that no frame is moved.
 pub fn take_turn<F: Files>(
+    frames: &mut Vec<Frame>,
+    place: &mut LinePlace,
+    alloc: Global,
+    scope: &Scope,
+    names: &mut Names,
+    files: &mut F,
+) -> Result<Turn, InputFault>
+    requires held { AreHeld (F.shelf files.old).ids (ids_of (sources_of frames.old.items)) }
+    requires sound { AreSound (sources_of frames.old.items) }
+    requires within { SourcesWithin (length names.old) (sources_of frames.old.items) }
+    requires numbered { Numbered names.old }
+    ensures turns { IsTrue (F.shelf files.old).tells → Turns (cats_of (world_of scope.now)) (end_of (world_of scope.now)) names.new
+        (front_size (F.shelf files.old) (sources_of frames.old.items)) (front_size (F.shelf files.new) (sources_of frames.new.items))
+        (rest_at names.old (F.shelf files.old) (sources_of frames.old.items)) place.old result
+        (rest_at names.new (F.shelf files.new) (sources_of frames.new.items)) place.new }
+    ensures holds { Holds (F.shelf files.old) (F.shelf files.new) (sources_of frames.old.items) (sources_of frames.new.items) }
+    ensures fences { fences_of (sources_of frames.new.items) ≡ fences_of (sources_of frames.old.items) }
+    ensures aside { IsTrue (F.shelf files.old).tells → aside_of (F.shelf files.new) (sources_of frames.new.items) ≡ aside_of (F.shelf files.old) (sources_of frames.old.items) }
+    ensures sound { OnOk result (AreSound (sources_of frames.new.items)) }
+    ensures within { SourcesWithin (length names.new) (sources_of frames.new.items) }
+    ensures spends { IsTrue (F.shelf files.old).tells → AreLittle (sources_of frames.old.items) → Spends (F.shelf files.old) (F.shelf files.new) (sources_of frames.old.items) (sources_of frames.new.items)
+        (turn_bytes result (front_size (F.shelf files.old) (sources_of frames.old.items))) }
+    ensures little { AreLittle (sources_of frames.old.items) → LittleAfter result (sources_of frames.new.items) }
+    ensures falls { IfOk result (λ turn. TurnFalls turn (room_of (F.shelf files.old) (sources_of frames.old.items)) (vec_len frames.old)
+        (room_of (F.shelf files.new) (sources_of frames.new.items)) (vec_len frames.new)) }
+    ensures cause { HasInputCause (F.faults files.old) (F.faults files.new) result }
+    ensures grows { Extends names.old names.new }
+    ensures numbered { Numbered names.new }
+    ensures given { IfOk result (TurnWithin (length names.new)) }
+    ensures ends { TurnEnds result (sources_of frames.new.items) }
+{
+    match plain_token(frames, scope) {
+        Some(token) => Ok(Turn::Token(token, false)),
+        None => {
+            match list_token(frames) {
+                Some(token) => Ok(Turn::Token(token, false)),
+                None => whole_turn(frames, place, alloc, scope, names, files),
+            }
+        }
+    }
+}
+
+// Takes the next token of the list in front, and the frame with the last one; else nothing changes.
+fn list_token(frames: &mut Vec<Frame>) -> Option<Token>
+    ensures takes { MatchOption result (sources_of frames.new.items ≡ sources_of frames.old.items) (λ t. sources_of frames.old.items ≡ Plain t ∷ sources_of frames.new.items) }
+    ensures len { MatchOption result (vec_len frames.new ≡ vec_len frames.old) (λ _. vec_len frames.new ≤ vec_len frames.old) }
+{
+    let count = frames.len();
+    if count == 0 {
+        return None;
+    }
+    match next_of(&mut frames[count - 1]) {
+        None => None,
+        Some(token) => {
+            drop_spent(frames);
+            Some(token)
+        }
+    }
+}
+
+// Takes the next token of a frame that is a list; else nothing changes.
+fn next_of(frame: &mut Frame) -> Option<Token>
+    ensures { MatchOption result (written frame.new ≡ written frame.old) (λ t. written frame.old ≡ Plain t ∷ written frame.new) }
+{
+    match frame {
+        Frame::List(part) => part.next(),
+        Frame::Macro(expansion) => expansion.next(),
+        _ => None,
+    }
+}
+
+// Takes away the frame in front, if it is a list of which nothing is left.
+fn drop_spent(frames: &mut Vec<Frame>)
+    ensures same { sources_of frames.new.items ≡ sources_of frames.old.items }
+    ensures len { vec_len frames.new ≤ vec_len frames.old }
+{
+    let count = frames.len();
+    if count == 0 {
+        return;
+    }
+    if is_spent(&frames[count - 1]) {
+        frames.truncate(count - 1);
+    }
+}
+
+// Whether a frame is a list of which nothing is left.
+fn is_spent(frame: &Frame) -> bool
+    ensures { IsTrue result → written frame.now ≡ [] }
+{
+    match frame {
+        Frame::List(part) => part.is_empty(),
+        Frame::Macro(expansion) => expansion.is_empty(),
+        _ => false,
+    }
+}
+
+// Takes the next token of the file in front, where one character tells it; else nothing changes.
+fn plain_token(frames: &mut Vec<Frame>, scope: &Scope) -> Option<Token>
+    ensures takes { TakesPlain (cats_of (world_of scope.now)) (sources_of frames.old.items) result (sources_of frames.new.items) }
+    ensures len { vec_len frames.new ≡ vec_len frames.old }
+{
+    let count = frames.len();
+    if count == 0 {
+        return None;
+    }
+    if let Frame::File(file) = &mut frames[count - 1] {
+        return file.plain_token(&ScopeCodes(scope));
+    }
+    None
+}
+
+// A turn at the front of the frames, whose first is moved.
+fn whole_turn<F: Files>(
     frames: &mut Vec<Frame>,
     place: &mut LinePlace,
     alloc: Global,

@@ -25,6 +25,19 @@ pub bites_step : (cats : ℕ → ℕ) (spot : Spot) (c : ℕ) (tail : List ℕ) 
     → bites cats spot ≡ bite cats spot.state c tail (bites cats (record { state = spot.state; tail = tail }))
 bites_step cats spot c tail is = look_step cats Dry (bite cats spot.state) spot.tail c tail is
 
+settled_plain : (cats : ℕ → ℕ) (c : ℕ) (tail : List ℕ) → (cats c == 7) ≡ false → settled cats (c ∷ tail) ≡ c ∷ tail
+settled_plain cats c [] e = refl
+settled_plain cats c (d ∷ []) e = refl
+settled_plain cats c (d ∷ x ∷ []) e = rw e refl
+settled_plain cats c (d ∷ x ∷ y ∷ tail) e = rw e refl
+
+-- a character of another category than 7 is looked at as it stands
+pub plain_step : (cats : ℕ → ℕ) (spot : Spot) (c : ℕ) (tail : List ℕ) → spot.tail ≡ c ∷ tail → (cats c ≡ 7 → ⊥)
+    → bites cats spot ≡ bite cats spot.state c tail (bites cats (record { state = spot.state; tail = tail }))
+plain_step cats spot c tail is other =
+    let test : (cats c == 7) ≡ false = search (rules, nat_tests) in
+    bites_step cats spot c tail (ap (settled cats) is ∙ settled_plain cats c tail test)
+
 pub bites_end : (cats : ℕ → ℕ) (spot : Spot) → settled cats spot.tail ≡ [] → bites cats spot ≡ Dry
 bites_end cats spot is = look_end cats Dry (bite cats spot.state) spot.tail is
 

@@ -9,7 +9,7 @@
 ghost use Rattle.std.specs.Prelude.{◌≡◌, ℕ, ◌+◌, ◌<◌, ◌≤◌, List, [], ◌∷◌, ◌++◌, length, drop, IsTrue, slice_index, Some, None, Ok, Err, MatchOption, IfSome, IfOk, OnOk, OnErr, option_to_list};
 ghost use Rattle.std.specs.List.{All};
 ghost use Rattle.std.specs.Char.{IsScalar};
-ghost use Rattle.texml_token.specs.Numbers.{token_at, TokenWithin, Extends, Numbered, with_text};
+ghost use Rattle.texml_token.specs.Numbers.{Table, token_at, TokenWithin, Extends, Numbered, with_text};
 ghost use Rattle.texml_token.specs.Token.{Named};
 ghost use Rattle.texml_mouth.specs.declared.LineState.{LineState};
 ghost use Rattle.texml_mouth.specs.Looked.{settled, begins_hex, is_hex_digit, hex_value, turned};
@@ -144,6 +144,41 @@ impl Mouth {
             self.fault = Some(fault);
         }
         answer
+    }
+
+    /// The next token of the line, where its character is one by itself: no character is looked at behind it, and no name is read or made.
+    /// Where it isn't so, or can't be told at once, the answer is None, and nothing changes. `next` gives the same token.
+    #[tactic(auto, using(crate::proofs::Biting::plain_step))]
+    pub fn next_plain<C: Codes>(&mut self, codes: &C) -> Option<Token>
+        ensures bites { IfSome result (λ t. (texts : Table) → bites (C.cats codes.now) self.old.spot ≡ Gives (token_at texts t) self.new.spot) }
+        ensures none { MatchOption result (self.new ≡ self.old) (λ _. Unit {0}) }
+        ensures fault { self.new.fault ≡ self.old.fault }
+        ensures lower { length self.new.spot.tail + length (option_to_list result) ≤ length self.old.spot.tail }
+        ensures given { IfSome result (TokenWithin 0) }
+    {
+        let c = self.ahead()?;
+        match codes.category(c) {
+            category::ESCAPE
+            | category::END_OF_LINE
+            | category::SUPERSCRIPT
+            | category::IGNORED
+            | category::ACTIVE
+            | category::COMMENT
+            | category::INVALID => None,
+            category::SPACE => {
+                if self.state() != LineState::MidLine {
+                    return None;
+                }
+                self.pass();
+                self.go(LineState::SkippingBlanks);
+                Some(Token::Char(SPACE, category::SPACE))
+            }
+            category => {
+                self.pass();
+                self.go(LineState::MidLine);
+                Some(Token::Char(c, category))
+            }
+        }
     }
 
     // The next token, where no fault is kept.
@@ -293,6 +328,18 @@ impl Mouth {
         let c = self.peek(codes)?;
         self.pass();
         Some(c)
+    }
+
+    // The first character, where it stands in the line.
+    fn ahead(&self) -> Option<u32>
+        ensures first { IfSome result (λ c. self.now.spot.tail ≡ c ∷ drop 1 self.now.spot.tail) }
+        ensures some { IfSome result (λ _. 1 ≤ length self.now.spot.tail) }
+        ensures scalar { IfSome result IsScalar }
+    {
+        match self.front {
+            Some(_) => None,
+            None => self.line.as_slice().get(self.place).copied(),
+        }
     }
 
     // Leaves the first character.

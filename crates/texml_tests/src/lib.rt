@@ -6,11 +6,15 @@
 #![tactic(auto)]
 
 #[cfg(test)]
+mod base;
+#[cfg(test)]
 mod build;
 #[cfg(test)]
 mod cond;
 #[cfg(test)]
 mod html;
+#[cfg(test)]
+mod input;
 #[cfg(test)]
 mod scope;
 #[cfg(test)]

@@ -53,21 +53,18 @@ pub fn load(alloc: Global, line: &[char], end: Option<char>) -> Result<Line, All
     ensures scalars { IfOk result (All IsScalar) }
 {
     let mut codes = codes_of(alloc, without_spaces(line))?;
-    match end {
-        None => Ok(codes),
-        Some(c) => {
-            codes.push(c as u32)?;
-            Ok(codes)
-        }
+    if let Some(c) = end {
+        codes.push(c as u32)?;
     }
+    Line::from_slice(alloc, &codes)
 }
 
-// The codes of characters.
-fn codes_of(alloc: Global, text: &[char]) -> Result<Line, AllocError>
-    ensures codes { IfOk result (λ l. l ≡ text.now) }
-    ensures scalars { IfOk result (All IsScalar) }
+// The codes of characters, with room for one more.
+fn codes_of(alloc: Global, text: &[char]) -> Result<Vec<u32>, AllocError>
+    ensures codes { IfOk result (λ v. v.items ≡ text.now) }
+    ensures scalars { IfOk result (λ v. All IsScalar v.items) }
 {
-    let mut codes = Line::new(alloc);
+    let mut codes = Vec::with_capacity(alloc, text.len().saturating_add(1))?;
     for c in text {
         codes.push(*c as u32)?;
     }

@@ -115,7 +115,7 @@ impl Engine {
 
     /// Takes the spaces that come next, and where the character `[` of category 12 comes behind them, this and the argument up to a
     /// `]` outside groups, which goes too; all that unexpanded. `\par` may stand in the argument, which loses its braces where
-    /// it is one group. Where no such `[` comes, it answers `None`, and the token that comes stays as it was. A text that
+    /// it is one group. Where no such `[` comes, it answers `None`, and the token that comes stays, and may be expanded from then on. A text that
     /// ends before the `[` is passed over. It tells nobody (The TeXbook, chapter 20).
     ///
     /// # Errors
@@ -177,7 +177,7 @@ impl Engine {
     }
 
     /// Takes the spaces that come next, and where this character of category 12 comes behind them, this too, and answers whether
-    /// it came; all that unexpanded. Another token that comes stays as it was, and a text that ends before it is passed over. It
+    /// it came; all that unexpanded. Another token that comes stays, and may be expanded from then on, and a text that ends before it is passed over. It
     /// tells nobody.
     ///
     /// # Errors
@@ -375,7 +375,7 @@ impl Engine {
         }
     }
 
-    // Whether a token that was taken is a sign; another token goes back as it was.
+    // Whether a token that was taken is a sign; another token goes back, and may be expanded from then on.
     fn sign_or_back(&mut self, code: u32, read: Read) -> Result<bool, Stop>
         requires running { self.old.stop ≡ None }
         requires sound { Sound self.old }
@@ -391,7 +391,7 @@ impl Engine {
         if is_sign(code, read.token) {
             return Ok(true);
         }
-        match self.input.back(read.token, read.frozen) {
+        match self.input.back(read.token, false) {
             Ok(()) => Ok(false),
             Err(_) => Err(self.no_memory()),
         }

@@ -64,7 +64,7 @@ impl Engine {
         Ok(read)
     }
 
-    // A token that was taken goes back as it was.
+    // A token that was taken goes back, and may be expanded from then on.
     fn put_read(&mut self, read: Option<Read>) -> Result<(), Stop>
         requires running { self.old.stop ≡ None }
         requires sound { Sound self.old }
@@ -80,7 +80,7 @@ impl Engine {
         let Some(read) = read else {
             return Ok(());
         };
-        match self.input.back(read.token, read.frozen) {
+        match self.input.back(read.token, false) {
             Ok(()) => Ok(()),
             Err(_) => Err(self.no_memory()),
         }

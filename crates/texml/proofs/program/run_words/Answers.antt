@@ -9,8 +9,13 @@ returns-in-Ok g c =
       meets = rw words at c.run.ensures.meets;
       files_cause = c.run.ensures.files_cause;
       out_cause = c.run.ensures.out_cause;
+      late = rw words at c.run.ensures.late;
+      page = rw words at c.run.ensures.page;
+      document = rw words at c.run.ensures.document;
+      lines = rw words at c.run.ensures.lines;
       words_fit = rw words at c.run.ensures.words;
       untouched = rw words at c.run.ensures.untouched;
       notes = c.run.ensures.notes;
       closed = c.run.ensures.closed;
+      little = rw words at c.run.ensures.reads;
     })

@@ -1,5 +1,5 @@
-use Rattle.std.proofs.Common.{refl, ◌∙◌}
-use Rattle.std.proofs.lemmas.Bool.{false_from_ne_true, eq-eqb, ne_eqb}
+use Rattle.std.proofs.Common.{◌∙◌}
+use Rattle.std.proofs.lemmas.Bool.{false_from_ne_true}
 use Rattle.std.proofs.lemmas.Str.{is_utf8-from_IsUtf8, IsUtf8-from_is_utf8}
 use Rattle.std.specs.Str.{is_utf8}
 use Rattle.texml.proofs.words.text_of.Goals as goal
@@ -10,10 +10,4 @@ returns-in_ok-from_str-in-Ok c =
 
 pub returns-in-Err : goal.returns-in-Err
 returns-in-Err c =
-    let broken = false_from_ne_true (is_utf8 c.args.word.now) (λ test. c.in-Err.ensures.cases.0 (IsUtf8-from_is_utf8 c.args.word.now test)) in
-    (broken, rw (eq-eqb c.args.at 0 c.if-at-eq0.true) refl)
-
-pub returns-in-Err-2 : goal.returns-in-Err-2
-returns-in-Err-2 c =
-    let broken = false_from_ne_true (is_utf8 c.args.word.now) (λ test. c.in-Err-2.ensures.cases.0 (IsUtf8-from_is_utf8 c.args.word.now test)) in
-    (broken, rw (ne_eqb c.args.at 0 c.if-at-eq0.false) refl)
+    (false_from_ne_true (is_utf8 c.args.word.now) (λ test. c.in-Err.ensures.cases.0 (IsUtf8-from_is_utf8 c.args.word.now test)), c.broken_at.ensures)

@@ -5,6 +5,6 @@ use Rattle.texml_text.proofs.lines.codes_of.Given as goal
 
 abbrev pub invariant-loop-c : goal.invariant-loop-c
 invariant-loop-c l = record {
-  codes : l.codes ≡ take l.c-index l.text;
-  scalars : All IsScalar l.codes;
+  codes : l.codes.items ≡ take l.c-index l.text;
+  scalars : All IsScalar l.codes.items;
 }
