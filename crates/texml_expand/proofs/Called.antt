@@ -1,7 +1,8 @@
 -- What the call of a macro gives, by numbers of names and by their texts.
-use Rattle.std.proofs.Common.{◌≡◌, ◌-◌, ◌==◌, ◌&&◌, ℕ, zero, suc, Bool, true, false, List, [], ◌∷◌, ◌++◌, length, map, Option, None, Some, option_map, Ok, Err, refl, sym, ap, ap₂, ◌∙◌, subst, arith, inl, inr}
+use Rattle.std.proofs.Common.{◌≡◌, ◌≤◌, ◌-◌, ◌==◌, ◌&&◌, ℕ, zero, suc, Bool, true, false, List, [], ◌∷◌, ◌++◌, length, map, Option, None, Some, option_map, Ok, Err, refl, sym, ap, ap₂, ◌∙◌, subst, arith, inl, inr}
 use Rattle.std.specs.List.{All}
 use Rattle.std.specs.Option.{option_to_list, unwrap_or}
+use Rattle.std.specs.Prelude.{slice_index_or}
 use Rattle.std.proofs.lemmas.Bool.{cases_lt, eqb-true}
 use Rattle.std.proofs.lemmas.List.{map-append, get_or_past, drop-map}
 use Rattle.std.proofs.lemmas.List.Elements.{All-nil, All-cons, All-append, All-head, All-tail}
@@ -22,7 +23,9 @@ use Rattle.texml_expand.specs.declared.stop.Stop.TheVariants as stop
 use Rattle.texml_expand.specs.declared.feeding.Verdict.TheVariants.{Yields}
 use Rattle.texml_expand.specs.State.{State, nothing, Done, Reading, after, chain, give}
 use Rattle.texml_expand.specs.Arguments.{decided_by, read_by, optional, first_argument, macro_arguments, filled_token, filled, called}
-use Rattle.texml_expand.specs.Filling.{filling, fills}
+use Rattle.texml_input.specs.Put.{argument, replaced, code_slot, put_code}
+use Rattle.texml_expand.specs.Calls.{Puts}
+use Rattle.texml_expand.specs.Expansion.{puts}
 use Rattle.texml_expand.specs.Fronts.{MacroCode, macro_at}
 use Rattle.texml_expand.specs.Contract.{Outside}
 use Rattle.texml_expand.specs.Held.{Held, state_of}
@@ -30,8 +33,13 @@ use Rattle.texml_expand.specs.Doing.{Gets}
 use Rattle.texml_expand.proofs.Least.{by_least_at}
 use Rattle.texml_expand.proofs.Getting.{gets_then, gets_stop, gets_now, gets_out}
 
+-- the argument of a number
+argument_at : (args : List (List TokenCode)) (n : ℕ) → 1 ≤ n → argument args n ≡ slice_index_or args (n - 1) []
+argument_at args zero h = absurd (omega (arith, h))
+argument_at args (suc n) h = let e : n ≡ suc n - 1 = omega arith in ap (λ k. slice_index_or args k []) e
+
 -- a body with arguments in their places
-module _ (texts : Table) (args : List (List TokenCode)) where
+module _ (texts : Table) (args : List (List TokenCode)) (count slots : ℕ) where
   abbrev at : List (List Token)
   at = map (tokens_at texts) args
 
@@ -39,37 +47,42 @@ module _ (texts : Table) (args : List (List TokenCode)) where
   named_at zero = refl
   named_at (suc k) = refl
 
-  filling_at : (t : TokenCode) → tokens_at texts (filling args t) ≡ filled_token at (token_at texts t)
-  filling_at (tokens.Char c category) = refl
-  filling_at (tokens.Active c) = refl
-  filling_at (tokens.Param n) = sym (get_or-map (tokens_at texts) args (n - 1) [])
-  filling_at (tokens.Named name) = named_at name.0
+  replaced_at : (t : TokenCode) → BodyTokenWithin count slots t → tokens_at texts (replaced args t (code_slot t)) ≡ filled_token at (token_at texts t)
+  replaced_at (tokens.Char c category) w = refl
+  replaced_at (tokens.Active c) w = refl
+  replaced_at (tokens.Param n) w = ap (tokens_at texts) (argument_at args n w.0) ∙ sym (get_or-map (tokens_at texts) args (n - 1) [])
+  replaced_at (tokens.Named name) w = named_at name.0
 
-  pub fills_at : (body : List TokenCode) → tokens_at texts (fills args body) ≡ filled at (tokens_at texts body)
-  fills_at [] = refl
-  fills_at (t ∷ ts) = map-append (token_at texts) (filling args t) (fills args ts) ∙ ap₂ (λ xs ys. xs ++ ys) (filling_at t) (fills_at ts)
+  pub put_at : (body : List TokenCode) → BodyWithin count slots body → tokens_at texts (put_code args body) ≡ filled at (tokens_at texts body)
+  put_at [] w = refl
+  put_at (t ∷ ts) w =
+      map-append (token_at texts) (replaced args t (code_slot t)) (put_code args ts)
+      ∙ ap₂ (λ xs ys. xs ++ ys) (replaced_at t (All-head (BodyTokenWithin count slots) t ts w)) (put_at ts (All-tail (BodyTokenWithin count slots) t ts w))
 
-module _ (count : ℕ) (args : List (List TokenCode)) (h : All (TokensWithin count) args) where
-  filling_within : (slots : ℕ) (t : TokenCode) → BodyTokenWithin count slots t → TokensWithin count (filling args t)
-  filling_within slots (tokens.Char c category) w = All-cons (TokenWithin count) (tokens.Char c category) [] w (All-nil (TokenWithin count))
-  filling_within slots (tokens.Active c) w = All-cons (TokenWithin count) (tokens.Active c) [] w (All-nil (TokenWithin count))
-  filling_within slots (tokens.Named name) w = All-cons (TokenWithin count) (tokens.Named name) [] w (All-nil (TokenWithin count))
-  filling_within slots (tokens.Param n) w = elim (cases_lt (n - 1) (length args)) [
-    | inl lt ↦ h (n - 1) [] lt
-    | inr le ↦ subst (TokensWithin count) (sym (get_or_past args (n - 1) [] le)) (All-nil (TokenWithin count))
+module _ (count slots : ℕ) (args : List (List TokenCode)) (h : All (TokensWithin count) args) where
+  argument_within : (n : ℕ) → TokensWithin count (slice_index_or args n [])
+  argument_within n = elim (cases_lt n (length args)) [
+    | inl lt ↦ h n [] lt
+    | inr le ↦ subst (TokensWithin count) (sym (get_or_past args n [] le)) (All-nil (TokenWithin count))
   ]
 
-  pub fills_within : (slots : ℕ) (body : List TokenCode) → BodyWithin count slots body → TokensWithin count (fills args body)
-  fills_within slots [] w = All-nil (TokenWithin count)
-  fills_within slots (t ∷ ts) w =
-      All-append (TokenWithin count) (filling args t) (fills args ts) (filling_within slots t (All-head (BodyTokenWithin count slots) t ts w)) (fills_within slots ts (All-tail (BodyTokenWithin count slots) t ts w))
+  replaced_within : (t : TokenCode) → BodyTokenWithin count slots t → TokensWithin count (replaced args t (code_slot t))
+  replaced_within (tokens.Char c category) w = All-cons (TokenWithin count) (tokens.Char c category) [] w (All-nil (TokenWithin count))
+  replaced_within (tokens.Active c) w = All-cons (TokenWithin count) (tokens.Active c) [] w (All-nil (TokenWithin count))
+  replaced_within (tokens.Named name) w = All-cons (TokenWithin count) (tokens.Named name) [] w (All-nil (TokenWithin count))
+  replaced_within (tokens.Param n) w = subst (TokensWithin count) (sym (argument_at args n w.0)) (argument_within (n - 1))
+
+  pub put_within : (body : List TokenCode) → BodyWithin count slots body → TokensWithin count (put_code args body)
+  put_within [] w = All-nil (TokenWithin count)
+  put_within (t ∷ ts) w =
+      All-append (TokenWithin count) (replaced args t (code_slot t)) (put_code args ts) (replaced_within t (All-head (BodyTokenWithin count slots) t ts w)) (put_within ts (All-tail (BodyTokenWithin count slots) t ts w))
 
 -- a body without places stays as it is
-plain_filled : (count : ℕ) (body : List TokenCode) → BodyWithin count 0 body → fills [] body ≡ body
-plain_filled count [] w = refl
-plain_filled count (t ∷ ts) w = ap₂ (λ xs ys. xs ++ ys) (plain_token t (All-head (BodyTokenWithin count 0) t ts w)) (plain_filled count ts (All-tail (BodyTokenWithin count 0) t ts w))
+plain_put : (count : ℕ) (body : List TokenCode) → BodyWithin count 0 body → put_code [] body ≡ body
+plain_put count [] w = refl
+plain_put count (t ∷ ts) w = ap₂ (λ xs ys. xs ++ ys) (plain_token t (All-head (BodyTokenWithin count 0) t ts w)) (plain_put count ts (All-tail (BodyTokenWithin count 0) t ts w))
   where
-    plain_token : (t : TokenCode) → BodyTokenWithin count 0 t → filling [] t ≡ t ∷ []
+    plain_token : (t : TokenCode) → BodyTokenWithin count 0 t → replaced [] t (code_slot t) ≡ t ∷ []
     plain_token (tokens.Char c category) w = refl
     plain_token (tokens.Active c) w = refl
     plain_token (tokens.Named name) w = refl
@@ -93,7 +106,7 @@ pub plain_called : (texts : Table) (count : ℕ) (m : MacroCode) (default : Opti
     → BodyWithin count (slots_in pieces) m.body → (s : State) → called (macro_at texts (record { long = m.long; params = record { default = default; pieces = pieces }; body = m.body })) s ≡ Done (tokens_at texts m.body) s nothing
 plain_called texts count m None [] d p none fits w s =
     ap (λ a. chain a (λ args. give (filled args (tokens_at texts m.body)))) (ap (λ a. after nothing (chain a (λ rest. give ([] ++ rest)))) (no_arguments m.long s))
-    ∙ ap (λ b. Done b s nothing) (sym (fills_at texts [] m.body) ∙ ap (tokens_at texts) (plain_filled count m.body w))
+    ∙ ap (λ b. Done b s nothing) (sym (put_at texts [] count 0 m.body w) ∙ ap (tokens_at texts) (plain_put count m.body w))
 plain_called texts count m (Some list) [] d p none fits w s = absurd fits
 plain_called texts count m default (x ∷ xs) d p none fits w s = cc
 
@@ -178,23 +191,25 @@ module _ (old mid : Held) (grows : Extends old.names mid.names) (m : MacroCode) 
       (subst (λ l. Gets (give (firsts ++ map (tokens_at new.names) others)) (Ok l) new new h h) same (gets_now (firsts ++ map (tokens_at new.names) others) new h d.keeps.sound d.stops.kept d.holds.owns)))
 
 -- and the body with them in their places
-pub called_done : (old new : Held) → Extends old.names new.names → (m : MacroCode) → MacroWithin (length old.names) m → (args : List (List TokenCode)) (list : List TokenCode) (f g : Outside)
-    → Gets (macro_arguments (macro_at old.names m)) (Ok (map (tokens_at new.names) args)) old new f g → list ≡ fills args m.body → Gets (called (macro_at old.names m)) (Ok (tokens_at new.names list)) old new f g
-called_done old new grows m w args list f g d e =
-    let same = ap (filled (map (tokens_at new.names) args)) (sym (body_kept old.names new.names grows (slots_in m.params.pieces) m.body w.body)) ∙ sym (fills_at new.names args m.body) ∙ ap (tokens_at new.names) (sym e) in
-    gets_then (macro_arguments (macro_at old.names m)) (λ args. give (filled args (tokens_at old.names m.body))) (map (tokens_at new.names) args) (Ok (tokens_at new.names list)) old new new f g g d
+pub called_done : (old new : Held) → Extends old.names new.names → (m : MacroCode) → MacroWithin (length old.names) m → (args : List (List TokenCode)) (f g : Outside)
+    → Gets (macro_arguments (macro_at old.names m)) (Ok (map (tokens_at new.names) args)) old new f g → Gets (called (macro_at old.names m)) (Ok (tokens_at new.names (put_code args m.body))) old new f g
+called_done old new grows m w args f g d =
+    let same =
+    ap (filled (map (tokens_at new.names) args)) (sym (body_kept old.names new.names grows (slots_in m.params.pieces) m.body w.body))
+    ∙ sym (put_at new.names args (length old.names) (slots_in m.params.pieces) m.body w.body) in
+    gets_then (macro_arguments (macro_at old.names m)) (λ args. give (filled args (tokens_at old.names m.body))) (map (tokens_at new.names) args) (Ok (tokens_at new.names (put_code args m.body))) old new new f g g d
     (subst (λ l. Gets (give (filled (map (tokens_at new.names) args) (tokens_at old.names m.body))) (Ok l) new new g g) same
     (gets_now (filled (map (tokens_at new.names) args) (tokens_at old.names m.body)) new g d.keeps.sound d.stops.kept d.holds.owns))
-
-pub called_out : (old mid new : Held) (m : MacroCode) (args : List (List Token)) (e : Stop) (f g : Outside) → Gets (macro_arguments (macro_at old.names m)) (Ok args) old mid f g → e ≡ stop.NoMemory → new ≡ record mid { stop = Some stop.NoMemory }
-    → Gets (called (macro_at old.names m)) (Err e) old new f g
-called_out old mid new m args e f g d short is =
-    gets_then (macro_arguments (macro_at old.names m)) (λ args. give (filled args (tokens_at old.names m.body))) args (Err e) old mid new f g g d (gets_out (give (filled args (tokens_at old.names m.body))) e mid new g short is d.holds.owns)
 
 pub called_stop : (old new : Held) (m : MacroCode) (e : Stop) (f g : Outside) → Gets (macro_arguments (macro_at old.names m)) (Err e) old new f g → Gets (called (macro_at old.names m)) (Err e) old new f g
 called_stop old new m e f g d = gets_stop (macro_arguments (macro_at old.names m)) (λ args. give (filled args (tokens_at old.names m.body))) e old new f g d
 
-pub called_within : (old new : Table) → Extends old new → (m : MacroCode) → MacroWithin (length old) m → (args : List (List TokenCode)) (list : List TokenCode) → All (TokensWithin (length new)) args → list ≡ fills args m.body
-    → TokensWithin (length new) list
-called_within old new g m w args list h e =
-    subst (TokensWithin (length new)) (sym e) (fills_within (length new) args h (slots_in m.params.pieces) m.body (body_more (length old) (length new) g.longer (slots_in m.params.pieces) m.body w.body))
+pub called_within : (old new : Table) → Extends old new → (m : MacroCode) → MacroWithin (length old) m → (args : List (List TokenCode)) → All (TokensWithin (length new)) args → TokensWithin (length new) (put_code args m.body)
+called_within old new g m w args h = put_within (length new) (slots_in m.params.pieces) args h m.body (body_more (length old) (length new) g.longer (slots_in m.params.pieces) m.body w.body)
+
+-- what it gives goes back
+pub puts_got : (q : Reading (List Token)) (list : List Token) (old new : Held) (f g : Outside) → Gets q (Ok list) old new f g → Gets (puts q) (Ok (Puts list)) old new f g
+puts_got q list old new f g d = gets_then q (λ list. give (Puts list)) list (Ok (Puts list)) old new new f g g d (gets_now (Puts list) new g d.keeps.sound d.stops.kept d.holds.owns)
+
+pub puts_stopped : (q : Reading (List Token)) (e : Stop) (old new : Held) (f g : Outside) → Gets q (Err e) old new f g → Gets (puts q) (Err e) old new f g
+puts_stopped q e old new f g d = gets_stop q (λ list. give (Puts list)) e old new f g d

@@ -24,7 +24,6 @@ pub mod Hearing
 pub mod Laws
 pub mod Lending
 pub mod Fronts
-pub mod Filling
 pub mod Doing
 pub mod VariableCodes
 pub mod Machine

@@ -2,9 +2,8 @@
 ghost use Rattle.std.specs.Prelude.{◌≡◌, [], ◌∷◌, ◌==◌, length, MatchOption, IfOk, IsTrue};
 ghost use Rattle.texml_input.specs.Put.{argument, put_code, left_of};
 
-use std::alloc::{AllocError, Global};
+use std::alloc::AllocError;
 use std::marker::Model;
-use texml_match::Args;
 use texml_token::{Token, Tokens};
 
 // A list, and how many of its tokens were read.
@@ -83,12 +82,12 @@ impl Model for Expansion {
 
 impl Expansion {
     // The whole of a body, whose tokens are shared, as are those of the arguments.
-    pub fn new(alloc: Global, body: &Tokens, args: &Args) -> Result<Expansion, AllocError>
-        ensures { IfOk result (λ m. m ≡ put_code args.now body.now) }
+    pub fn new(body: &Tokens, args: Vec<Tokens>) -> Result<Expansion, AllocError>
+        ensures { IfOk result (λ m. m ≡ put_code args.items body.now) }
     {
         Ok(Expansion {
             body: body.clone()?,
-            args: args.as_slice().to_vec(alloc)?,
+            args,
             progress: Progress {
                 at: 0,
                 slot: 0,

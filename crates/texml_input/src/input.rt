@@ -20,7 +20,6 @@ use crate::turning::{Frame, LinePlace, next_read};
 use std::alloc::{AllocError, Global};
 use std::marker::Model;
 use texml_base::Files;
-use texml_match::Args;
 use texml_scope::Scope;
 use texml_token::{Bytes, Names, Token, Tokens};
 
@@ -143,11 +142,11 @@ impl Input {
     ///
     /// `AllocError` where there is no memory. The input is then as before.
     #[tactic(auto, using(crate::proofs::Sources::sound_plain))]
-    pub fn push_macro(&mut self, body: &Tokens, args: &Args) -> Result<(), AllocError>
-        ensures ok { OnOk result (self.new ≡ record self.old { sources = map Plain (put_code args.now body.now) ++ self.old.sources }) }
+    pub fn push_macro(&mut self, body: &Tokens, args: Vec<Tokens>) -> Result<(), AllocError>
+        ensures ok { OnOk result (self.new ≡ record self.old { sources = map Plain (put_code args.items body.now) ++ self.old.sources }) }
         ensures err { OnErr result (self.new ≡ self.old) }
     {
-        let expansion = Expansion::new(self.alloc, body, args)?;
+        let expansion = Expansion::new(body, args)?;
         self.push(Frame::Macro(expansion))
     }
 

@@ -17,7 +17,8 @@ ghost use Rattle.texml_expand.specs.Arguments.{fault_number, read_by, is_sign as
 ghost use Rattle.texml_expand.specs.Arguments.{means_space as spec_means_space, is_space as spec_is_space, behind_spaces as spec_behind_spaces, first_argument as spec_first_argument};
 ghost use Rattle.texml_expand.specs.Arguments.{macro_arguments as spec_macro_arguments, called as spec_called, read_argument as spec_read_argument, read_optional as spec_read_optional};
 ghost use Rattle.texml_expand.specs.Expand.{level};
-ghost use Rattle.texml_expand.specs.Fronts.{macro_at};
+ghost use Rattle.texml_expand.specs.Expansion.{puts};
+ghost use Rattle.texml_expand.specs.Fronts.{macro_at, gift_at, GiftWithin};
 ghost use Rattle.texml_expand.specs.Matched.{MatchedBy};
 ghost use Rattle.texml_expand.specs.Held.{state_of, world_in, Sound, Kept, Progress, IsAtLimit, ok_at, read_at, ReadWithin, Owns, Holding, SameFiles, Shrinks, Puts};
 ghost use Rattle.texml_expand.specs.Spending.{Spends, SpendsBy};
@@ -25,7 +26,8 @@ ghost use Rattle.texml_expand.specs.Contract.{Local, Reads, AnswersKept, Stops, 
 ghost use Rattle.texml_expand.specs.Doing.{Does, Gets, Runs};
 
 use super::Engine;
-use crate::call::{CallArgs, fill};
+use super::expanding::Gift;
+use crate::call::joined;
 use crate::feeding::{Feeder, Verdict};
 use crate::gathering::Gathering;
 use crate::group::Group;
@@ -208,34 +210,35 @@ impl Engine {
     }
 
     // What the call of a macro gives: its body, with the arguments that are read in their places.
-    pub(super) fn called<F: Files>(&mut self, files: &mut F, found: Macro) -> Result<Tokens, Stop>
+    pub(super) fn called<F: Files>(&mut self, files: &mut F, found: Macro) -> Result<Gift, Stop>
         requires running { self.old.stop ≡ None }
         requires sound { Sound self.old }
         requires owns { Owns (F.shelf files.old) self.old }
         requires found { MacroWithin (length self.old.names) found }
-        ensures gets { Gets (spec_called (macro_at self.old.names found)) (ok_at (tokens_at self.new.names) result) self.old self.new (files_at (F.shelf files.old) (F.faults files.old)) (files_at (F.shelf files.new) (F.faults files.new)) }
+        ensures gets { Gets (puts (spec_called (macro_at self.old.names found))) (ok_at (gift_at self.new.names) result) self.old self.new (files_at (F.shelf files.old) (F.faults files.old)) (files_at (F.shelf files.new) (F.faults files.new)) }
         ensures lower { OnOk result (Shrinks 0 (F.shelf files.old) self.old (F.shelf files.new) self.new) }
-        ensures within { IfOk result (TokensWithin (length self.new.names)) }
+        ensures within { IfOk result (GiftWithin (length self.new.names)) }
     {
         if found.params.pieces.as_slice().is_empty() {
-            return Ok(found.body);
+            return Ok(Gift::Puts(found.body));
         }
         let args = self.macro_arguments(files, &found)?;
-        match fill(self.alloc, found.body.as_slice(), &args) {
-            Ok(list) => Ok(list),
-            Err(_) => Err(self.no_memory()),
-        }
+        Ok(Gift::Fills(found.body, args))
     }
 
     // The arguments that stand behind the call of a macro.
-    fn macro_arguments<F: Files>(&mut self, files: &mut F, found: &Macro) -> Result<CallArgs, Stop>
+    fn macro_arguments<F: Files>(
+        &mut self,
+        files: &mut F,
+        found: &Macro,
+    ) -> Result<Vec<Tokens>, Stop>
         requires running { self.old.stop ≡ None }
         requires sound { Sound self.old }
         requires owns { Owns (F.shelf files.old) self.old }
         requires found { MacroWithin (length self.old.names) found.now }
-        ensures gets { Gets (spec_macro_arguments (macro_at self.old.names found.now)) (ok_at (map (tokens_at self.new.names)) result) self.old self.new (files_at (F.shelf files.old) (F.faults files.old)) (files_at (F.shelf files.new) (F.faults files.new)) }
+        ensures gets { Gets (spec_macro_arguments (macro_at self.old.names found.now)) (ok_at (λ args. map (tokens_at self.new.names) args.items) result) self.old self.new (files_at (F.shelf files.old) (F.faults files.old)) (files_at (F.shelf files.new) (F.faults files.new)) }
         ensures lower { OnOk result (Shrinks 0 (F.shelf files.old) self.old (F.shelf files.new) self.new) }
-        ensures within { IfOk result (All (TokensWithin (length self.new.names))) }
+        ensures within { IfOk result (λ args. All (TokensWithin (length self.new.names)) args.items) }
     {
         let first = self.first_argument(files, found.long, &found.params.default)?;
         let shape = match Shape::new(self.alloc, &found.params, found.long) {
@@ -243,7 +246,10 @@ impl Engine {
             Err(_) => return Err(self.no_memory()),
         };
         let others = self.arguments(files, &shape)?;
-        Ok(CallArgs::new(first, others))
+        match joined(self.alloc, first, &others) {
+            Ok(args) => Ok(args),
+            Err(_) => Err(self.no_memory()),
+        }
     }
 
     // The first argument of a macro where it has a default, which is that in brackets or else the default.

@@ -12,6 +12,7 @@ ghost use Rattle.texml_expand.specs.Take.{meaning_of};
 ghost use Rattle.texml_expand.specs.State.{tell as spec_tell};
 ghost use Rattle.texml_expand.specs.Calls.{expandable, Puts, Freezes};
 ghost use Rattle.texml_input.specs.Rest.{Tok};
+ghost use Rattle.texml_input.specs.Put.{put_code};
 ghost use Rattle.texml_expand.specs.Begin.{finish_with};
 ghost use Rattle.texml_expand.specs.Expand.{front_taken, begin, finish, record_of, level};
 ghost use Rattle.texml_expand.specs.Expand.{front as spec_front, given as spec_given, fetch as spec_fetch, look as spec_look, expand_once as spec_expand_once, read_int as spec_read_int, read_dimen as spec_read_dimen, read_index as spec_read_index, decimal as spec_decimal, roman_numeral as spec_roman};
@@ -30,6 +31,7 @@ ghost use Rattle.texml_expand.specs.Hearing.{hears, hears_part, Meets, FollowsTo
 ghost use Rattle.texml_expand.specs.Doing.{Does, Gets};
 
 use super::{ESCAPE, Engine};
+use crate::call::fill;
 use crate::conditional::{Test, test_at};
 use crate::internal::{Internal, held_of};
 use crate::machine::{Machine, Scanned, Value};
@@ -76,10 +78,12 @@ pub(super) enum Expandable {
     PartEnd(Word),
 }
 
-// What an expansion gives: tokens that go back, or one that goes back kept from being expanded.
+// What an expansion gives: tokens that go back, the body of a macro that does with arguments in it, or a token that goes back kept
+// from being expanded.
 #[derive(Drop)]
 pub(super) enum Gift {
     Puts(Tokens),
+    Fills(Tokens, Vec<Tokens>),
     Freezes(Token),
 }
 
@@ -368,6 +372,7 @@ impl Engine {
     {
         match gift {
             Gift::Puts(list) => self.finish(tell, token, &list),
+            Gift::Fills(body, args) => self.finish_filled(tell, token, &body, args),
             Gift::Freezes(kept) => self.finish_frozen(tell, token, kept),
         }
     }
@@ -417,6 +422,44 @@ impl Engine {
                 self.nesting -= 1;
                 let no_file = Bytes::new(self.alloc);
                 self.tell_of(tell, token, told, &no_file)
+            }
+            Err(_) => Err(self.no_memory()),
+        }
+    }
+
+    // Ends the call of a macro: its body, with the arguments in their places, is put before what is to be read. It shares their
+    // tokens, and is written out only for who wants to be told.
+    fn finish_filled<T: Teller>(
+        &mut self,
+        tell: &mut T,
+        token: Token,
+        body: &Tokens,
+        args: Vec<Tokens>,
+    ) -> Result<(), Stop>
+        requires running { self.old.stop ≡ None }
+        requires nested { 1 ≤ self.old.nesting }
+        requires token { TokenWithin (length self.old.names) token }
+        requires filled { TokensWithin (length self.old.names) (put_code args.items body.now) }
+        ensures finishes { (shelf : Shelf) → Meets (hears T.wanting T.heard) (hears_part T.wanting T.part)
+            (finish (token_at self.old.names token) (Puts (tokens_at self.old.names (put_code args.items body.now))) (state_of shelf self.old)) result (state_of shelf self.new) tell.old tell.new }
+        ensures stops { (shelf : Shelf) (faults : ℕ) → Stops result (outside shelf faults (T.faults tell.old) (T.loan tell.old)) (outside shelf faults (T.faults tell.new) (T.loan tell.new)) self.new.stop }
+        ensures kept { self.new.stop ≡ stop_after result }
+        ensures is { OnOk result (self.new ≡ record self.old { input = record self.old.input { sources = map Plain (put_code args.items body.now) ++ self.old.input.sources }; nesting = self.old.nesting - 1 }) }
+        ensures progress { Progress self.old self.new }
+        ensures limit { IsAtLimit result self.new }
+        ensures files { SameFiles self.old self.new }
+    {
+        if tell.wants() {
+            let list = match fill(self.alloc, body.as_slice(), args.as_slice()) {
+                Ok(list) => list,
+                Err(_) => return Err(self.no_memory()),
+            };
+            return self.finish(tell, token, &list);
+        }
+        match self.input.push_macro(body, args) {
+            Ok(()) => {
+                self.nesting -= 1;
+                Ok(())
             }
             Err(_) => Err(self.no_memory()),
         }
@@ -532,10 +575,7 @@ impl Engine {
         ensures within { IfOk result (GiftWithin (length self.new.names)) }
     {
         match found {
-            Expandable::Call(found) => {
-                let list = self.called(files, found)?;
-                Ok(Gift::Puts(list))
-            }
+            Expandable::Call(found) => self.called(files, found),
             Expandable::Number => {
                 let list = self.decimal(files, tell, deep)?;
                 Ok(Gift::Puts(list))

@@ -43,14 +43,14 @@ use Rattle.texml_expand.specs.Branches.{choose, choose_case}
 use Rattle.texml_expand.specs.Branches.{If, IfCat, IfX, IfNum, IfDim, IfOdd, IfTrue, IfFalse, IfCase}
 use Rattle.texml_expand.specs.Arguments.{called}
 use Rattle.texml_expand.specs.Quantities.{dimension_text, the}
-use Rattle.texml_expand.specs.Expansion.{string, job, no_expand}
+use Rattle.texml_expand.specs.Expansion.{puts, string, job, no_expand}
 use Rattle.texml_expand.specs.Expand.{decimal, roman_numeral}
 use Rattle.texml_expand.specs.Conditionals.{two_faces, same_meanings, compares, compared, number, is_odd, open_test, chosen, part_end}
 use Rattle.texml_expand.proofs.Calling.{called_decided, called_leads}
 use Rattle.texml_expand.proofs.Lawful.{lawful_silent}
 use Rattle.texml_expand.proofs.Levels.{lawful_decimal, lawful_roman_numeral}
 use Rattle.texml_expand.proofs.Looking.{lawful_the}
-use Rattle.texml_expand.proofs.Giving.{lawful_string, lawful_job, lawful_no_expand}
+use Rattle.texml_expand.proofs.Giving.{lawful_puts, lawful_string, lawful_job, lawful_no_expand}
 use Rattle.texml_expand.proofs.Branching.{lawful_two_faces, lawful_same_meanings, lawful_compared, lawful_number, lawful_open_test, lawful_chosen, lawful_part_end}
 use Rattle.texml_expand.proofs.Copying.{copy_stops, copy_unread, copy_ends, copied_did}
 use Rattle.texml_expand.proofs.Gifts.{puts_stops, puts_does, ok_then, ended_begun}
@@ -210,24 +210,14 @@ roman-returns-clause-does g t c =
     let d = does_as (hears T.wanting T.heard) (hears_part T.wanting T.part) (tokens_at new.names) (λ c. give (printed_tokens (roman_text i))) (lawful_give (printed_tokens (roman_text i))) c.roman_numeral.result mid new (outside (F.shelf files) (F.faults files) (T.faults tell) (T.loan tell)) tell (by_new tokens_at (give (printed_tokens (roman_text i))) c.roman_numeral.result mid new (subst (λ z. Local (give (printed_tokens (roman_text z))) (ok_at (tokens_at mid.names) c.roman_numeral.result) mid new) (to_z-of_z w32 i fits) e.writes) e.same) e.kept e.limit e.keeps e.progress e.files c.in_ok-value.ensures.does.holds.owns in
     (does_then (hears T.wanting T.heard) (hears_part T.wanting T.part) (λ c. c.scan int_text []) (λ i c. give (printed_tokens (roman_text i))) (lawful_scan int_text) (λ i. lawful_give (printed_tokens (roman_text i))) i _ _ _ _ _ _ _ _ _ _ c.in_ok-value.ensures.does d)
 
-pub given-returns-in_err-list-in-Call-clause-does : goal.given-returns-in_err-list-in-Call-clause-does
-given-returns-in_err-list-in-Call-clause-does g t c =
+pub given-returns-in-Call-clause-does : goal.given-returns-in-Call-clause-does
+given-returns-in-Call-clause-does g t c =
     let T = g.T.Teller in
     let F = g.F.Files in
     let mine = c.args.self.now in
     let tok = token_at mine.names c.args.token in
-    let d = puts_stops (hears T.wanting T.heard) (hears_part T.wanting T.part) (λ c'. called (macro_at mine.names c.in-Call.found)) (lawful_silent (called (macro_at mine.names c.in-Call.found)) (called_decided (macro_at mine.names c.in-Call.found)) (called_leads (macro_at mine.names c.in-Call.found))) _ _ _ _ _ _ _ (does_gets (hears T.wanting T.heard) (hears_part T.wanting T.part) (λ c'. called (macro_at mine.names c.in-Call.found)) (lawful_silent (called (macro_at mine.names c.in-Call.found)) (called_decided (macro_at mine.names c.in-Call.found)) (called_leads (macro_at mine.names c.in-Call.found))) _ mine c.called.new.self _ _ _ _ (T.faults c.args.tell.now) (T.loan c.args.tell.now) c.args.tell.now c.in_err-list-in-Call.ensures.gets) in
-    let h = given_as (hears T.wanting T.heard) (hears_part T.wanting T.part) tok tok _ (expandable_at mine.names c.args.found) _ _ _ _ _ _ _ refl (ap (expandable_at mine.names) c.in-Call.is) d in
-    search (rules, h)
-
-pub given-returns-in_ok-list-in-Call-clause-does : goal.given-returns-in_ok-list-in-Call-clause-does
-given-returns-in_ok-list-in-Call-clause-does g t c =
-    let T = g.T.Teller in
-    let F = g.F.Files in
-    let mine = c.args.self.now in
-    let tok = token_at mine.names c.args.token in
-    let d = puts_does (hears T.wanting T.heard) (hears_part T.wanting T.part) (λ c'. called (macro_at mine.names c.in-Call.found)) (lawful_silent (called (macro_at mine.names c.in-Call.found)) (called_decided (macro_at mine.names c.in-Call.found)) (called_leads (macro_at mine.names c.in-Call.found))) _ _ _ _ _ _ _ (does_gets (hears T.wanting T.heard) (hears_part T.wanting T.part) (λ c'. called (macro_at mine.names c.in-Call.found)) (lawful_silent (called (macro_at mine.names c.in-Call.found)) (called_decided (macro_at mine.names c.in-Call.found)) (called_leads (macro_at mine.names c.in-Call.found))) _ mine c.called.new.self _ _ _ _ (T.faults c.args.tell.now) (T.loan c.args.tell.now) c.args.tell.now c.in_ok-list-in-Call.ensures.gets) in
-    given_as (hears T.wanting T.heard) (hears_part T.wanting T.part) tok tok _ (expandable_at mine.names c.args.found) _ _ _ _ _ _ _ refl (ap (expandable_at mine.names) c.in-Call.is) d
+    let m = macro_at mine.names c.in-Call.found in
+    given_as (hears T.wanting T.heard) (hears_part T.wanting T.part) tok tok _ (expandable_at mine.names c.args.found) _ _ _ _ _ _ _ refl (ap (expandable_at mine.names) c.in-Call.is) (does_gets (hears T.wanting T.heard) (hears_part T.wanting T.part) (λ c'. puts (called m)) (lawful_puts (λ c'. called m) (lawful_silent (called m) (called_decided m) (called_leads m))) _ mine c.called.new.self _ _ _ _ (T.faults c.args.tell.now) (T.loan c.args.tell.now) c.args.tell.now c.called.ensures.gets)
 
 pub given-returns-in_err-list-in-Number-clause-does : goal.given-returns-in_err-list-in-Number-clause-does
 given-returns-in_err-list-in-Number-clause-does g t c =
