@@ -456,7 +456,7 @@ impl Engine {
             };
             return self.finish(tell, token, &list);
         }
-        match self.input.push_macro(body, args) {
+        match self.input.push_body(body, args) {
             Ok(()) => {
                 self.nesting -= 1;
                 Ok(())
