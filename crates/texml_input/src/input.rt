@@ -20,6 +20,7 @@ use crate::turning::{Frame, LinePlace, next_read};
 use std::alloc::{AllocError, Global};
 use std::marker::Model;
 use texml_base::Files;
+use texml_match::Args;
 use texml_scope::Scope;
 use texml_token::{Bytes, Names, Token, Tokens};
 
@@ -141,8 +142,21 @@ impl Input {
     /// # Errors
     ///
     /// `AllocError` where there is no memory. The input is then as before.
+    pub fn push_macro(&mut self, body: &Tokens, args: &Args) -> Result<(), AllocError>
+        ensures ok { OnOk result (self.new ≡ record self.old { sources = map Plain (put_code args.now body.now) ++ self.old.sources }) }
+        ensures err { OnErr result (self.new ≡ self.old) }
+    {
+        let args = args.as_slice().to_vec(self.alloc)?;
+        self.push_body(body, args)
+    }
+
+    /// Puts the body of a macro in front, as `push_macro` does, with arguments that are given away.
+    ///
+    /// # Errors
+    ///
+    /// `AllocError` where there is no memory. The input is then as before.
     #[tactic(auto, using(crate::proofs::Sources::sound_plain))]
-    pub fn push_macro(&mut self, body: &Tokens, args: Vec<Tokens>) -> Result<(), AllocError>
+    pub fn push_body(&mut self, body: &Tokens, args: Vec<Tokens>) -> Result<(), AllocError>
         ensures ok { OnOk result (self.new ≡ record self.old { sources = map Plain (put_code args.items body.now) ++ self.old.sources }) }
         ensures err { OnErr result (self.new ≡ self.old) }
     {
