@@ -11,6 +11,8 @@ use texml_scope::{Meaning, is_conditional};
 /// So many more conditionals than end may not begin in one skipped text.
 pub const DEEPEST: u32 = 1_000_000;
 
+const _: () = prove!(DEEPEST == 1_000_000);
+
 /// What the meaning of a token in skipped text decides: more is skipped, or this word is reached, or too many conditionals
 /// have begun.
 #[derive(Clone, Copy, Debug, PartialEq, Eq)]

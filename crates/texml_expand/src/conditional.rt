@@ -61,6 +61,10 @@ pub(crate) const NO_CODE: u32 = 0x110000;
 
 pub(crate) const NO_CATEGORY: u8 = 16;
 
+const _: () = prove!(NO_CODE == 0x110000);
+
+const _: () = prove!(NO_CATEGORY == 16);
+
 // The test that the builtin of a place begins, if it begins one.
 pub(crate) fn test_at(place: u16) -> Option<Test>
     ensures { result ≡ spec_test_at place }

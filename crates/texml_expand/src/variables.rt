@@ -12,6 +12,8 @@ use texml_scope::builtins::{
 /// The number of the last register of each kind.
 pub const LAST_REGISTER: u32 = 255;
 
+const _: () = prove!(LAST_REGISTER == 255);
+
 /// The variables that one builtin names.
 #[derive(Clone, Copy, Debug, PartialEq, Eq)]
 pub enum Variable {

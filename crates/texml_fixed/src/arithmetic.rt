@@ -11,6 +11,11 @@ pub const MAX_NUMBER: i32 = 2_147_483_647;
 /// The greatest dimension that can be written, in scaled points and without its sign: one less than 16384pt.
 pub const MAX_DIMENSION: i32 = 1_073_741_823;
 
+// The bounds are promised to users.
+const _: () = prove!(MAX_NUMBER == 2_147_483_647);
+
+const _: () = prove!(MAX_DIMENSION == 1_073_741_823);
+
 /// The sum.
 ///
 /// # Errors

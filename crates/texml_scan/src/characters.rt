@@ -41,3 +41,32 @@ pub const SMALL_A: u32 = 97;
 
 /// The last small letter.
 pub const SMALL_Z: u32 = 122;
+
+// The definitions speak of these characters by their codes.
+const _: () = prove!(DOUBLE_QUOTE == 34);
+
+const _: () = prove!(SINGLE_QUOTE == 39);
+
+const _: () = prove!(PLUS_SIGN == 43);
+
+const _: () = prove!(COMMA == 44);
+
+const _: () = prove!(MINUS_SIGN == 45);
+
+const _: () = prove!(POINT == 46);
+
+const _: () = prove!(ZERO == 48);
+
+const _: () = prove!(NINE == 57);
+
+const _: () = prove!(CAPITAL_A == 65);
+
+const _: () = prove!(CAPITAL_F == 70);
+
+const _: () = prove!(CAPITAL_Z == 90);
+
+const _: () = prove!(BACKQUOTE == 96);
+
+const _: () = prove!(SMALL_A == 97);
+
+const _: () = prove!(SMALL_Z == 122);

@@ -34,8 +34,7 @@ use Rattle.texml_assign.proofs.Readings.{Lawful, Plain, lawful_plain, lawful_the
 use Rattle.texml_assign.proofs.Doing.{does_then, does_stop, does_judge, does_now, puts_then}
 use Rattle.texml_assign.proofs.Looping.{LawfulLoop, lawful_loop}
 use Rattle.texml_assign.proofs.Parts.{same_room, plain_token_or_end, spaces_laws, plain_begin, plain_end}
-use Rattle.texml_top.specs.declared.verb.TheConstants.{SPECIALS}
-use Rattle.texml_top.specs.Verb.{as_other, all_other, char_of, char_in, next_char, behind_star, delimiter, char_turn, text_turn, text_loop, text_to, verb_text, begin_verb, end_verb, verb}
+use Rattle.texml_top.specs.Verb.{as_other, all_other, char_of, char_in, next_char, behind_star, delimiter, char_turn, text_turn, text_loop, text_to, verb_text, specials, begin_verb, end_verb, verb}
 
 pub plain_char_of : (t : Token) → Plain (char_of t)
 plain_char_of (Char c category) = plain_if (category == SPACE) _ _ (plain_fail _ FILE_ENDED []) (plain_give c)
@@ -81,7 +80,7 @@ pub plain_others : (codes : List ℕ) → Plain (change (all_other codes))
 plain_others codes = plain_change (all_other codes) (λ s. same_room s (all_other codes s) refl refl refl (let e = ap (sum_by (λ g. length g.after)) (groups_stay codes s.world) in omega (arith, e)))
 
 pub plain_begin_verb : Plain begin_verb
-plain_begin_verb = plain_then (begin_kind Begin) (λ _. change (all_other SPECIALS)) (plain_begin Begin) (λ _. plain_others SPECIALS)
+plain_begin_verb = plain_then (begin_kind Begin) (λ _. change (all_other specials)) (plain_begin Begin) (λ _. plain_others specials)
 
 pub plain_end_verb : (text : List ℕ) → Plain (end_verb text)
 plain_end_verb text = plain_then (end_kind Begin) (λ _. give text) (plain_end Begin) (λ _. plain_give text)

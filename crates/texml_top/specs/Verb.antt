@@ -1,5 +1,5 @@
 -- Characters as they stand (Lamport's LaTeX manual, section C.2.3): what `\verb` reads, under categories of its own.
-use Rattle.std.specs.Prelude.{ℕ, ◌==◌, List, [], ◌++◌, fold, pos, Option, None, Some, if◌then◌else◌}
+use Rattle.std.specs.Prelude.{ℕ, ◌==◌, List, [], ◌++◌, fold, pos, Option, None, Some, if◌then◌else◌, codes}
 use Rattle.std.specs.Char.{encode_utf8}
 use Rattle.texml_token.specs.Token.{Token, Char, Active}
 use Rattle.texml_token.specs.declared.category.TheConstants.{SPACE, OTHER}
@@ -13,7 +13,6 @@ use Rattle.texml_expand.specs.State.{State, Reading, ◌>>=◌, ◌>>◌, give, 
 use Rattle.texml_assign.specs.Loop.{ByDepth, Next, On, Over, Loop, loops}
 use Rattle.texml_assign.specs.Operands.{token_or_end}
 use Rattle.texml_assign.specs.Sets.{begin_kind, end_kind}
-use Rattle.texml_top.specs.declared.verb.TheConstants.{SPECIALS}
 
 -- Categories
 
@@ -23,7 +22,7 @@ as_other w c = set_local key_eq (Cat c) (Number (pos OTHER)) w
 
 -- these characters are
 abbrev pub all_other : List ℕ → State → State
-all_other codes s = record s { world = fold as_other s.world codes }
+all_other characters s = record s { world = fold as_other s.world characters }
 
 -- Characters
 
@@ -75,11 +74,15 @@ verb_text n = do
 
 -- The command
 
+-- the characters that are others there: space, tab, and those that begin with another meaning
+abbrev pub specials : List ℕ
+specials = codes " \t\\{}$&#^_%~"
+
 -- a group begins, in which the specials are others
 abbrev pub begin_verb : Reading (Unit {0})
 begin_verb = do
   begin_kind Begin
-  change (all_other SPECIALS)
+  change (all_other specials)
 
 abbrev pub end_verb : List ℕ → Reading (List ℕ)
 end_verb text = do

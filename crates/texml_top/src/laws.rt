@@ -1,8 +1,10 @@
 //! Laws of the definitions of a run.
-ghost use Rattle.std.specs.Prelude.{ℕ, List};
+ghost use Rattle.std.specs.Prelude.{◌≡◌, ℕ, List};
 ghost use Rattle.std.specs.declared.option.Option.{Option};
 ghost use Rattle.texml_top.specs.Document.{GatheringKeepsTheDocument};
 ghost use Rattle.texml_top.specs.Outcome.{OneOutcome};
+ghost use Rattle.texml_top.specs.Table.{elements};
+ghost use Rattle.texml_top.specs.Written.{written};
 
 /// Whatever the words and the files are, a run has one outcome.
 pub fn one_outcome()
@@ -12,4 +14,10 @@ pub fn one_outcome()
 /// A text that goes on as one operation makes the same document as its parts.
 pub fn gathering_keeps_the_document()
     ensures { GatheringKeepsTheDocument }
+{}
+
+/// The table of elements is the one that the definitions write out.
+#[tactic(auto, unfolding(crate::specs::Table::elements, crate::specs::Table::line_by))]
+pub fn elements_are_written()
+    ensures { elements ≡ written }
 {}

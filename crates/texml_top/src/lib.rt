@@ -20,7 +20,7 @@ mod table;
 mod top;
 mod verb;
 
-pub use laws::{gathering_keeps_the_document, one_outcome};
+pub use laws::{elements_are_written, gathering_keeps_the_document, one_outcome};
 pub use notes::noted;
 pub use status::Status;
 pub use top::run;

@@ -23,6 +23,19 @@ pub const BAD_ATTRIBUTE: u8 = 5;
 /// The element would stand too deep.
 pub const TREE_DEPTH: u8 = 6;
 
+// The numbers are promised to users.
+const _: () = prove!(NO_PLACE == 1);
+
+const _: () = prove!(NO_TEXT == 2);
+
+const _: () = prove!(NOTHING_TO_CLOSE == 3);
+
+const _: () = prove!(UNCLOSED == 4);
+
+const _: () = prove!(BAD_ATTRIBUTE == 5);
+
+const _: () = prove!(TREE_DEPTH == 6);
+
 /// What is wrong with an operation.
 #[derive(Debug, Drop, PartialEq, Eq)]
 pub struct ModelFault {

@@ -54,6 +54,8 @@ use texml_watch::{Record, Teller};
 // How many expansions may be open within each other.
 const DEEPEST: usize = 400;
 
+const _: () = prove!(DEEPEST == 400);
+
 // How many internal quantities may be read within each other. Beyond that there is no stack: it is want of memory.
 const DEEPEST_QUANTITY: usize = 1000;
 

@@ -27,6 +27,8 @@ use texml_watch::Teller;
 // How many files may be open.
 const MOST_FILES: usize = 100;
 
+const _: () = prove!(MOST_FILES == 100);
+
 impl Engine {
     // The name of a file: behind spaces a brace begins an argument, and else it goes up to a space or another token that is no character.
     #[cycle(expanding)]
