@@ -227,7 +227,7 @@ given-returns-in_err-list-in-Number-clause-does g t c =
     let tok = token_at mine.names c.args.token in
     let d = puts_stops (hears T.wanting T.heard) (hears_part T.wanting T.part) decimal lawful_decimal _ _ _ _ _ _ _ c.in_err-list-in-Number.ensures.does in
     let h = given_as (hears T.wanting T.heard) (hears_part T.wanting T.part) tok tok _ (expandable_at mine.names c.args.found) _ _ _ _ _ _ _ refl (ap (expandable_at mine.names) c.in-Number.is) d in
-    rw (passed_on c.from_residual-in_err-list-in-Number.result c.in_err-list-in-Number.field-0.0 c.from_residual-in_err-list-in-Number.ensures) h
+    rw (passed_on c.from_residual.result c.in_err-list-in-Number.field-0.0 c.from_residual.ensures) h
 
 pub given-returns-in_ok-list-in-Number-clause-does : goal.given-returns-in_ok-list-in-Number-clause-does
 given-returns-in_ok-list-in-Number-clause-does g t c =
