@@ -38,6 +38,8 @@ pub fn assign(engine: &mut Engine, global: bool, key: Key, meaning: Meaning) -> 
     ensures kept { engine.new.stop ≡ stop_after result }
     ensures keeps { OnOk result (Kept engine.old engine.new) }
     ensures advances { Advances engine.old engine.new }
+    ensures step { OnOk result (engine.new.writes ≡ add_up engine.old.writes 1) }
+    ensures no_step { OnErr result (engine.new.writes ≡ engine.old.writes) }
     ensures files { SameFiles engine.old engine.new }
     ensures puts { OnOk result (Puts 0 engine.old engine.new) }
 {
@@ -59,6 +61,8 @@ pub fn set(engine: &mut Engine, global: bool, key: Key, value: Value) -> Result<
     ensures kept { engine.new.stop ≡ stop_after result }
     ensures keeps { OnOk result (Kept engine.old engine.new) }
     ensures advances { Advances engine.old engine.new }
+    ensures step { OnOk result (engine.new.writes ≡ add_up engine.old.writes 1) }
+    ensures no_step { OnErr result (engine.new.writes ≡ engine.old.writes) }
     ensures files { SameFiles engine.old engine.new }
     ensures puts { OnOk result (Puts 0 engine.old engine.new) }
 {
@@ -82,6 +86,8 @@ fn set_value(
     requires { MaySet key value }
     ensures ok { OnOk result (world_of scope.new ≡ set_by global key value (world_of scope.old)) }
     ensures err { OnErr result (scope.new ≡ scope.old) }
+    ensures step { OnOk result (steps.new ≡ add_up steps.old 1) }
+    ensures no_step { OnErr result (steps.new ≡ steps.old) }
 {
     if global {
         return scope.set_global(key, value, steps);

@@ -1,6 +1,7 @@
 //! Commands of expansion that take tokens as they stand, and names made of characters.
 
-ghost use Rattle.std.specs.Prelude.{◌≡◌, ◌≤◌, [], ◌∷◌, ℕ, None, Some, length, IfOk, OnOk};
+ghost use Rattle.std.specs.Prelude.{◌≡◌, ◌≤◌, [], ◌∷◌, ℕ, None, Some, length, if◌then◌else◌, IfOk, OnOk, OnErr};
+ghost use Rattle.texml_base.specs.Rising.{add_up};
 ghost use Rattle.texml_token.specs.Token.{Named};
 ghost use Rattle.texml_token.specs.Numbers.{Table, token_at, tokens_at, text_at, Extends, Numbered, TokenWithin, TokensWithin};
 ghost use Rattle.texml_token.specs.Spelling.{spelled as spec_spelled};
@@ -237,6 +238,8 @@ impl Engine {
         requires within { name.0 ≤ length self.old.names }
         ensures same { self.new ≡ record self.old { scope = self.new.scope; writes = self.new.writes } }
         ensures writes { self.old.writes ≤ self.new.writes }
+        ensures steps { OnOk result (self.new.writes ≡ (if spec_is_undefined (meaning_in ((world_in self.old).top (NameKey (text_at self.old.names name.0)))) then add_up self.old.writes 1 else self.old.writes)) }
+        ensures no_step { OnErr result (self.new.writes ≡ self.old.writes) }
         ensures world { OnOk result (world_in self.new ≡ with_name (text_at self.old.names name.0) (world_in self.old)) }
         ensures covered { OnOk result (WorldCovered (length self.new.names) (world_of self.new.scope)) }
         ensures groups { OnOk result ((world_of self.new.scope).groups ≡ (world_of self.old.scope).groups) }
