@@ -12,6 +12,7 @@ mod assignments;
 mod define;
 mod executing;
 mod fillers;
+mod laws;
 mod letters;
 mod new_command;
 mod new_if;
@@ -23,5 +24,6 @@ mod table;
 mod targets;
 
 pub use executing::{Executed, execute};
+pub use laws::execution_decides;
 pub use operands::{next_token, token_or_end};
 pub use sets::{begin_group, end_group};

@@ -2,8 +2,9 @@
 use Rattle.std.specs.Prelude.{◌≡◌, ℕ, Bool, List}
 use Rattle.texml_token.specs.Token.{Token}
 use Rattle.texml_expand.specs.declared.variables.Index.{Index}
+use Rattle.texml_expand.specs.declared.variables.Variable.{Variable}
 use Rattle.texml_expand.specs.State.{State, IsDecided}
-use Rattle.texml_expand.specs.Expand.{ByDepth, fetch, expand_once, read_int, read_dimen, read_glue, read_keyword, read_index}
+use Rattle.texml_expand.specs.Expand.{ByDepth, fetch, look, expand_once, read_int, read_dimen, read_glue, read_keyword, read_index, read_key}
 use Rattle.texml_expand.specs.Absorb.{absorb}
 
 -- from each state some depth decides
@@ -16,20 +17,24 @@ Agrees reading = (s : State) (n m : ℕ) → IsDecided (reading n s) → IsDecid
 
 pub record AlwaysDecide : Type 0 where
   pub fetch : Decides fetch
+  pub look : Decides look
   pub expand : (t : Token) → Decides (expand_once t)
   pub int : Decides read_int
   pub dimen : Decides read_dimen
   pub glue : Decides read_glue
   pub keyword : (word : List ℕ) → Decides (read_keyword word)
   pub index : (i : Index) → Decides (read_index i)
+  pub variable : (v : Variable) → Decides (read_key v)
   pub absorb : (expanding : Bool) → Decides (absorb expanding)
 
 pub record DecideOnce : Type 0 where
   pub fetch : Agrees fetch
+  pub look : Agrees look
   pub expand : (t : Token) → Agrees (expand_once t)
   pub int : Agrees read_int
   pub dimen : Agrees read_dimen
   pub glue : Agrees read_glue
   pub keyword : (word : List ℕ) → Agrees (read_keyword word)
   pub index : (i : Index) → Agrees (read_index i)
+  pub variable : (v : Variable) → Agrees (read_key v)
   pub absorb : (expanding : Bool) → Agrees (absorb expanding)
