@@ -122,3 +122,12 @@ returns-in-Ok-Token-clause-loads g c = λ told small.
 
 pub returns-in-Ok-Token-clause-grows : goal.returns-in-Ok-Token-clause-grows
 returns-in-Ok-Token-clause-grows g c = extends_trans _ _ _ c.loop-fault.invariant.grows c.take_turn.ensures.grows
+
+pub returns-in-Err-clause-holds : goal.returns-in-Err-clause-holds
+returns-in-Err-clause-holds g c = holds_trans _ _ _ _ _ _ c.loop-fault.invariant.holds c.take_turn.ensures.holds
+
+pub returns-in-Ok-End-clause-holds : goal.returns-in-Ok-End-clause-holds
+returns-in-Ok-End-clause-holds g c = holds_trans _ _ _ _ _ _ c.loop-fault.invariant.holds c.take_turn.ensures.holds
+
+pub returns-in-Ok-Token-clause-holds : goal.returns-in-Ok-Token-clause-holds
+returns-in-Ok-Token-clause-holds g c = holds_trans _ _ _ _ _ _ c.loop-fault.invariant.holds c.take_turn.ensures.holds
