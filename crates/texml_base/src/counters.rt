@@ -1,5 +1,5 @@
 //! Counters: an allowance that is used up, and steps that are taken.
-ghost use Rattle.std.specs.Prelude.{◌≡◌, ◌≤◌, ◌+◌};
+ghost use Rattle.std.specs.Prelude.{◌≡◌, ◌≤◌, ◌+◌, nat_eq};
 ghost use Rattle.texml_base.specs.Counters.{BeginsOne};
 ghost use Rattle.texml_base.specs.Rising.{add_up};
 
@@ -31,7 +31,7 @@ impl Budget {
         Budget { limit, begun: 0 }
     }
 
-    /// BeginsOne one more, or answers that the limit is reached and changes nothing.
+    /// Begins one more, or answers that the limit is reached and changes nothing.
     pub fn begin(&mut self) -> bool
         ensures { BeginsOne self.old result self.new }
     {
@@ -40,6 +40,13 @@ impl Budget {
         }
         self.begun += 1;
         true
+    }
+
+    /// Whether as many were begun as may be.
+    pub fn is_spent(&self) -> bool
+        ensures { result ≡ nat_eq self.now.begun self.now.limit }
+    {
+        self.begun == self.limit
     }
 
     /// How many were begun.

@@ -5,6 +5,7 @@ pub mod Sources
 pub mod Standing
 pub mod InFront
 pub mod Plain
+pub mod Known
 pub mod Onward
 pub mod Turns
 pub mod Emptied

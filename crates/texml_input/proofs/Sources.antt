@@ -1,7 +1,8 @@
 -- Sources, and what they stand for as other files are read.
-use Rattle.std.proofs.Common.{◌≡◌, ◌≢◌, ℕ, zero, suc, ◌+◌, ◌*◌, ◌≤◌, Bool, true, false, cond, ◌==◌, IsTrue, ◌<◌, List, [], ◌∷◌, ◌++◌, map, replicate, reverse, length, refl, sym, ap, ap₂, ◌∙◌, subst, arith, append-nil, append_assoc, length-append, take-append-drop, get_or, set, take, drop}
-use Rattle.std.proofs.lemmas.Bool.{eq-eqb, false≢true}
+use Rattle.std.proofs.Common.{◌≡◌, ◌≢◌, ℕ, zero, suc, ◌+◌, ◌*◌, ◌≤◌, Bool, true, false, cond, ◌==◌, IsTrue, ◌<◌, List, [], ◌∷◌, ◌++◌, map, replicate, reverse, length, refl, sym, ap, ap₂, ◌∙◌, subst, arith, inl, inr, append-nil, append_assoc, length-append, take-append-drop, get_or, set, take, drop}
+use Rattle.std.proofs.lemmas.Bool.{eq-eqb, ne_eqb, cases_eq, false≢true}
 use Rattle.std.proofs.lemmas.List.{reverse-append, drop_more, take_more, take-set, drop-set-lt, get_or-set_same, length-set}
+use Rattle.std.proofs.lemmas.List.Sums.{sum_by-cons}
 use Rattle.std.proofs.lemmas.List.Elements.{All-cons, All-head, All-tail}
 use Rattle.texml_base.specs.Outside.{Shelf, in_use, without, SameAt, IsClosed}
 use Rattle.texml_base.proofs.Ids.{in_use-without}
@@ -12,7 +13,7 @@ use Rattle.texml_text.specs.File.{rows_of_rest}
 use Rattle.texml_text.specs.Reader.{Touches, Spends as ReaderSpends}
 use Rattle.texml_input.specs.Rest.{Tok, Frozen, Text, page}
 use Rattle.texml_input.specs.Held.{Opened, Source, Plain, Marked, File, Fence, page_of, rest_of, aside_of, rest_at, ids_of, fences_of, AreHeld, SourceWithin, SourcesWithin, file_room, room_of, ahead_of, AreLittle, AreSound, IsAtFence, end_first}
-use Rattle.texml_input.specs.Keeping.{Holds, Spends}
+use Rattle.texml_input.specs.Keeping.{Holds, Spends, times}
 use Rattle.texml_input.specs.Inside.{written, written_all, sources_of}
 use Rattle.texml_input.specs.Turning.{TakesList}
 use Rattle.texml_input.specs.declared.turning.Frame.{Frame}
@@ -181,6 +182,19 @@ held_along ids ids' (x ∷ xs) go h = (go x (self_used x xs) h.0, h.1, held_alon
 held_without : (id : ℕ) (ids xs : List ℕ) → in_use xs id ≡ false → AreHeld ids xs → AreHeld (without id ids) xs
 held_without id ids xs none = held_along ids (without id ids) xs (λ x used is. subst IsTrue (sym (in_use-without id x ids (used_not id xs x none used))) is)
 
+-- an id that is taken away stands once less
+times_more : (id x : ℕ) (xs : List ℕ) → times id (x ∷ xs) ≡ cond (x == id) 1 0 + times id xs
+times_more id x xs = sum_by-cons (λ y. cond (y == id) 1 0) x xs
+
+times_without : (k id : ℕ) (ids : List ℕ) → in_use ids k ≡ true → cond (k == id) 1 0 + times id (without k ids) ≡ times id ids
+times_without k id [] h = cc
+times_without k id (x ∷ ids) h =
+    elim (cases_eq x k) [
+      | inl e ↦ rw (eq-eqb x k e) (ap (λ y. cond (y == id) 1 0 + times id ids) (sym e) ∙ sym (times_more id x ids))
+      | inr ne ↦ let h2 : in_use ids k ≡ true = rw (ne_eqb x k ne) at h in
+          rw (ne_eqb x k ne) (omega (arith, times_without k id ids h2, times_more id x ids, times_more id x (without k ids)))
+    ]
+
 -- nothing is done with files
 pub holds_refl : (s : Shelf) (a : List Source) → AreHeld s.ids (ids_of a) → Holds s s a a
 holds_refl s a h = record {
@@ -188,6 +202,7 @@ holds_refl s a h = record {
   contents = refl;
   held = h;
   exact = λ e. e;
+  closed = λ id. refl;
   fewer = λ id n. n;
   uses = λ id n. refl;
   others = λ id n. record { given = refl; left = refl; number = refl };
@@ -199,6 +214,7 @@ holds_trans s t u a b c p q = record {
   contents = q.contents ∙ p.contents;
   held = q.held;
   exact = λ e. q.exact (p.exact e);
+  closed = λ id. let x = p.closed id in let y = q.closed id in omega arith;
   fewer = λ id n. q.fewer id (p.fewer id n);
   uses = λ id n. q.uses id (p.fewer id n) ∙ p.uses id n;
   others = λ id n.
@@ -214,6 +230,7 @@ holds_same s t a b c d p q h = record {
   contents = h.contents;
   held = subst (AreHeld t.ids) q h.held;
   exact = λ e. h.exact (e ∙ sym p) ∙ q;
+  closed = λ id. let x = h.closed id in let y = ap (times id) p in let z = ap (times id) q in omega arith;
   fewer = λ id n. subst (λ l. in_use l id ≡ false) q (h.fewer id (subst (λ l. in_use l id ≡ false) (sym p) n));
   uses = λ id n. h.uses id (subst (λ l. in_use l id ≡ false) (sym p) n);
   others = λ id n. h.others id (subst (λ l. in_use l id ≡ false) (sym p) n);
@@ -242,6 +259,7 @@ module _ (old new : Shelf) (f g : Opened) (more : List Source) (held : AreHeld o
     contents = t.contents;
     held = subst (λ ids. AreHeld ids (ids_of (File g ∷ more))) (sym t.ids) (subst (AreHeld old.ids) (sym ids_read) held);
     exact = λ e. t.ids ∙ e ∙ sym ids_read;
+    closed = λ id. let x = ap (times id) t.ids in let y = ap (times id) ids_read in omega arith;
     fewer = λ id n. subst (λ l. in_use l id ≡ false) (sym ids_read) n;
     uses = λ id n. ap (λ l. in_use l id) t.ids;
     others = λ id n. t.others id (apart_not f.reader.id id (ids_of more) n);
@@ -276,6 +294,7 @@ module _ (old new : Shelf) (f : Opened) (more : List Source) (held : AreHeld old
     tells = c.tells;
     contents = c.contents;
     held = subst (λ ids. AreHeld ids (ids_of more)) (sym c.ids) (held_without f.reader.id old.ids (ids_of more) held.1 held.2);
+    closed = λ id. let x = ap (times id) c.ids in let y = times_without f.reader.id id old.ids held.0 in let z = times_more id f.reader.id (ids_of more) in omega arith;
     exact = λ e. c.ids ∙ ap (without f.reader.id) e ∙ (rw (eq-eqb f.reader.id f.reader.id refl) refl);
     fewer = λ id n. apart_behind f.reader.id id (ids_of more) n;
     uses = λ id n. ap (λ l. in_use l id) c.ids ∙ in_use-without f.reader.id id old.ids (apart_not f.reader.id id (ids_of more) n);

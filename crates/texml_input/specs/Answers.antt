@@ -3,6 +3,7 @@ use Rattle.std.specs.Prelude.{◌≡◌, ◌≤◌, ℕ, ◌+◌, List, [], Opti
 use Rattle.texml_token.specs.Token.{Token}
 use Rattle.texml_token.specs.Numbers.{Table, token_at, TokenWithin}
 use Rattle.texml_base.specs.Outside.{Shelf}
+use Rattle.texml_mouth.specs.Seen.{table_behind}
 use Rattle.texml_input.specs.Rest.{Item, Place}
 use Rattle.texml_input.specs.Next.{Taken, Given, Got, AtEnd, Invalid, NotUtf8, bytes_of}
 use Rattle.texml_input.specs.Held.{Source, AreLittle, AreLittlePast, IsAtFence, front_size}
@@ -19,6 +20,12 @@ abbrev pub given_at : Table → Result (Option Read) InputFault → Result (Opti
 given_at texts (Ok (Some r)) = Ok (Some (read_at texts r))
 given_at texts (Ok None) = Ok None
 given_at texts (Err f) = Err f
+
+-- the table of names behind an answer: the name of a token is added where it wasn't there, and no other
+abbrev pub names_behind : Table → Result (Option Taken) InputFault → Table
+names_behind texts (Ok (Some r)) = table_behind texts (Ok (Some r.token))
+names_behind texts (Ok None) = texts
+names_behind texts (Err f) = texts
 
 -- so many names give the token of an answer
 abbrev pub GivenWithin : ℕ → Result (Option Read) InputFault → Type 0

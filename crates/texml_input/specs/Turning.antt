@@ -6,6 +6,7 @@ use Rattle.texml_input.specs.Rest.{Item, Place}
 use Rattle.texml_input.specs.Next.{Got, AtEnd, Invalid, NotUtf8, behind, bytes_of, taken, next}
 use Rattle.texml_token.specs.declared.tokens.Token.{Token as TokenCode}
 use Rattle.texml_mouth.specs.Mouth.{Spot, Gives, bites}
+use Rattle.texml_mouth.specs.Seen.{table_behind}
 use Rattle.texml_input.specs.Held.{Opened, Source, Plain, File, IsAtFence}
 use Rattle.texml_input.specs.declared.fault.InputFault.{InputFault}
 use Rattle.texml_input.specs.declared.fault.InputFault.TheVariants as fault
@@ -44,6 +45,15 @@ TurnFalls turn.Again old frames new left = (new ≤ old) × (left + 1 ≤ frames
 TurnFalls turn.Loaded old frames new left = (new + 1 ≤ old) × (left ≤ frames)
 TurnFalls turn.Ended old frames new left = (new + 1 ≤ old) × (left ≤ frames)
 TurnFalls turn.End old frames new left = new ≤ old
+
+-- the table of names behind a turn, which gives a token by the new one
+abbrev pub turn_names : Table → Table → Result Turn InputFault → Table
+turn_names texts new (Ok (turn.Token t frozen)) = table_behind texts (Ok (Some (token_at new t)))
+turn_names texts new (Ok turn.Again) = texts
+turn_names texts new (Ok turn.Loaded) = texts
+turn_names texts new (Ok turn.Ended) = texts
+turn_names texts new (Ok turn.End) = texts
+turn_names texts new (Err f) = texts
 
 -- so many names give the token
 abbrev pub TurnWithin : ℕ → Turn → Type 0

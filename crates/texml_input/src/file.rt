@@ -3,6 +3,7 @@ ghost use Rattle.std.specs.Prelude.{◌≡◌, ◌≤◌, ◌+◌, [], length, N
 ghost use Rattle.texml_base.specs.Outside.{in_use};
 ghost use Rattle.texml_token.specs.Numbers.{Table, token_at, Extends, Numbered, TokenWithin};
 ghost use Rattle.texml_mouth.specs.Mouth.{bites, Gives};
+ghost use Rattle.texml_mouth.specs.Seen.{answer_at, table_behind};
 ghost use Rattle.texml_text.specs.File.{character};
 ghost use Rattle.texml_text.specs.Reader.{Touches, Spends, HasLineCause, block};
 ghost use Rattle.texml_input.specs.Held.{fresh_file, rows_of, page_of, file_room};
@@ -106,6 +107,7 @@ impl OpenFile {
     ) -> Result<Option<Token>, MouthFault>
         ensures bites { GivesToken (C.cats codes.now) names.new self.old result self.new }
         ensures lower { IfOk result (λ o. length self.new.spot.tail + length (option_to_list o) ≤ length self.old.spot.tail) }
+        ensures names { names.new ≡ table_behind names.old (answer_at names.new result) }
         ensures grows { Extends names.old names.new }
         ensures numbered { Numbered names.new }
         ensures given { IfOk result (λ o. IfSome o (TokenWithin (length names.new))) }

@@ -9,7 +9,7 @@ ghost use Rattle.texml_input.specs.Rest.{no_place, end_rests};
 ghost use Rattle.texml_input.specs.Next.{next};
 ghost use Rattle.texml_input.specs.Held.{Plain, File, Fence, back_source, fresh_file, ids_of, fences_of, rest_of, aside_of, AreHeld, AreSound, AreLittle, SourcesWithin, rest_at, room_of, IsAtFence, unfenced, end_first};
 ghost use Rattle.texml_input.specs.Keeping.{Holds, HasInputCause};
-ghost use Rattle.texml_input.specs.Answers.{given_at, GivenWithin, IsNext, fault_after, LittleAfter, Loads, EndsAtFence};
+ghost use Rattle.texml_input.specs.Answers.{given_at, names_behind, GivenWithin, IsNext, fault_after, LittleAfter, Loads, EndsAtFence};
 ghost use Rattle.texml_input.specs.Inside.{written};
 
 use crate::emptying::{close, count_files, drop_fence, empty, end_file_of};
@@ -94,6 +94,7 @@ impl Input {
         ensures cause { self.old.fault ≡ None → HasInputCause (F.faults files.old) (F.faults files.new) result }
         ensures fault { self.old.fault ≡ None → self.new.fault ≡ fault_after result }
         ensures stays { IfSome self.old.fault (λ fault. (result ≡ Err fault) × (self.new ≡ self.old) × (names.new ≡ names.old) × (F.shelf files.new ≡ F.shelf files.old) × (F.faults files.new ≡ F.faults files.old)) }
+        ensures names { names.new ≡ names_behind names.old (given_at names.new result) }
         ensures grows { Extends names.old names.new }
         ensures numbered { Numbered names.new }
         ensures within { SourcesWithin (length names.new) self.new.sources }

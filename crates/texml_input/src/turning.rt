@@ -7,9 +7,9 @@ ghost use Rattle.texml_input.specs.Rest.{no_place};
 ghost use Rattle.texml_input.specs.Next.{place_at, next};
 ghost use Rattle.texml_input.specs.Held.{File, Plain, ids_of, fences_of, aside_of, AreHeld, AreSound, AreLittle, SourcesWithin, rest_at, room_of, front_size};
 ghost use Rattle.texml_input.specs.Keeping.{Holds, Spends, HasInputCause};
-ghost use Rattle.texml_input.specs.Answers.{given_at, GivenWithin, IsNext, LittleAfter, Loads, EndsAtFence};
+ghost use Rattle.texml_input.specs.Answers.{given_at, names_behind, GivenWithin, IsNext, LittleAfter, Loads, EndsAtFence};
 ghost use Rattle.texml_input.specs.Inside.{sources_of, written};
-ghost use Rattle.texml_input.specs.Turning.{TakesList, TakesPlain, Turns, turn_bytes, TurnFalls, TurnWithin, TurnEnds};
+ghost use Rattle.texml_input.specs.Turning.{TakesList, TakesPlain, Turns, turn_names, turn_bytes, TurnFalls, TurnWithin, TurnEnds};
 
 use crate::codes::{ScopeCodes, end_character};
 use crate::fault::{InputFault, Read};
@@ -117,6 +117,7 @@ pub fn next_read<F: Files>(
     ensures sound { OnOk result (AreSound (sources_of frames.new.items)) }
     ensures ends { EndsAtFence result (sources_of frames.new.items) }
     ensures cause { HasInputCause (F.faults files.old) (F.faults files.new) result }
+    ensures names { names.new ≡ names_behind names.old (given_at names.new result) }
     ensures grows { Extends names.old names.new }
     ensures numbered { Numbered names.new }
     ensures within { SourcesWithin (length names.new) (sources_of frames.new.items) }
@@ -171,6 +172,7 @@ pub fn take_turn<F: Files>(
     ensures falls { IfOk result (λ turn. TurnFalls turn (room_of (F.shelf files.old) (sources_of frames.old.items)) (vec_len frames.old)
         (room_of (F.shelf files.new) (sources_of frames.new.items)) (vec_len frames.new)) }
     ensures cause { HasInputCause (F.faults files.old) (F.faults files.new) result }
+    ensures names { names.new ≡ turn_names names.old names.new result }
     ensures grows { Extends names.old names.new }
     ensures numbered { Numbered names.new }
     ensures given { IfOk result (TurnWithin (length names.new)) }
@@ -284,6 +286,7 @@ fn whole_turn<F: Files>(
     ensures falls { IfOk result (λ turn. TurnFalls turn (room_of (F.shelf files.old) (sources_of frames.old.items)) (vec_len frames.old)
         (room_of (F.shelf files.new) (sources_of frames.new.items)) (vec_len frames.new)) }
     ensures cause { HasInputCause (F.faults files.old) (F.faults files.new) result }
+    ensures names { names.new ≡ turn_names names.old names.new result }
     ensures grows { Extends names.old names.new }
     ensures numbered { Numbered names.new }
     ensures given { IfOk result (TurnWithin (length names.new)) }
@@ -370,6 +373,7 @@ fn turn_file<F: Files>(
     ensures falls { IfOk result (λ turn. TurnFalls turn (room_of (F.shelf files.old) (File file ∷ sources_of frames.old.items)) (1 + vec_len frames.old)
         (room_of (F.shelf files.new) (sources_of frames.new.items)) (vec_len frames.new)) }
     ensures cause { HasInputCause (F.faults files.old) (F.faults files.new) result }
+    ensures names { names.new ≡ turn_names names.old names.new result }
     ensures grows { Extends names.old names.new }
     ensures numbered { Numbered names.new }
     ensures given { IfOk result (TurnWithin (length names.new)) }
@@ -423,6 +427,7 @@ fn turn_line<F: Files>(
     ensures falls { IfOk result (λ turn. TurnFalls turn (room_of (F.shelf files.old) (File file ∷ sources_of frames.old.items)) (1 + vec_len frames.old)
         (room_of (F.shelf files.new) (sources_of frames.new.items)) (vec_len frames.new)) }
     ensures cause { HasInputCause (F.faults files.old) (F.faults files.new) result }
+    ensures names { (texts new : Table) → turn_names texts new result ≡ texts }
     ensures given { IfOk result (TurnWithin 0) }
     ensures ends { TurnEnds result (sources_of frames.new.items) }
 {

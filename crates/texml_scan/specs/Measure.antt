@@ -109,7 +109,7 @@ mark_of fil End = mark.Other
 mark_of fil (Character c k) = mark_letter fil (small c)
 mark_of fil (Other c q) = mark_quantity q
 
--- a number without sign and its digits behind the point, in a unit, with a sign
+-- a dimension without sign, with this one
 abbrev pub signed_dimension : Bool → Scaled → Scaled
 signed_dimension negative d = record { 0 = signed negative d.0 }
 

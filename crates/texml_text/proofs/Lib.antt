@@ -1,4 +1,4 @@
-pub mod FirstLine
+pub mod Trimmed
 pub mod Cutting
 pub mod Filling
 pub mod Taking

@@ -1,28 +1,10 @@
 -- The definitions computed on small values.
 use Rattle.std.proofs.Common.{◌≡◌, ◌++◌, [], ◌∷◌, None, Some, Err, pos, negsuc, false, refl, codes}
 use Rattle.std.specs.Str.{chars, is_utf8}
-use Rattle.texml_text.specs.Lines.{lines, without_mark, trim_end, loaded}
+use Rattle.texml_text.specs.Lines.{trim_end, loaded}
 use Rattle.texml_text.specs.File.{rows, rows_of_rest, character}
 use Rattle.texml_text.specs.Reader.{past_line, weight, number_after}
 use Rattle.texml_text.specs.declared.reader.LineFault.TheVariants.{NotUtf8, Failed}
-
-pub feed_ends_line : lines (codes "a" ++ 10 ∷ codes "b") ≡ codes "a" ∷ codes "b" ∷ []
-feed_ends_line = refl
-
-pub return_before_feed_goes : lines (codes "a" ++ 13 ∷ 10 ∷ codes "b") ≡ codes "a" ∷ codes "b" ∷ []
-return_before_feed_goes = refl
-
-pub other_return_stays : lines (13 ∷ 13 ∷ 10 ∷ 13 ∷ []) ≡ (13 ∷ []) ∷ (13 ∷ []) ∷ []
-other_return_stays = refl
-
-pub empty_lines_count : lines (10 ∷ 10 ∷ []) ≡ [] ∷ [] ∷ []
-empty_lines_count = refl
-
-pub no_line_of_nothing : lines [] ≡ []
-no_line_of_nothing = refl
-
-pub one_mark_goes : without_mark (0xFEFF ∷ 0xFEFF ∷ []) ≡ 0xFEFF ∷ []
-one_mark_goes = refl
 
 pub spaces_at_end_go : trim_end (codes " a b  ") ≡ codes " a b"
 spaces_at_end_go = refl

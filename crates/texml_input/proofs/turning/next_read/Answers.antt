@@ -26,6 +26,7 @@ loop-fault-preserved-in-Ok-Again g c =
       sound = c.in-Ok-Again.ensures.sound;
       little = λ small. c.in-Ok-Again.ensures.little (c.loop-fault.invariant.little small);
       within = c.take_turn.ensures.within;
+      names = (rw c.in-Ok-Again.field-0-is at c.in-Ok-Again.ensures.names) ∙ c.loop-fault.invariant.names;
       grows = extends_trans _ _ _ c.loop-fault.invariant.grows c.take_turn.ensures.grows;
       numbered = c.take_turn.ensures.numbered;
       lower =
@@ -50,6 +51,7 @@ loop-fault-preserved-in-Ok-Loaded g c =
       sound = c.in-Ok-Loaded.ensures.sound;
       little = λ small. c.in-Ok-Loaded.ensures.little (c.loop-fault.invariant.little small);
       within = c.take_turn.ensures.within;
+      names = (rw c.in-Ok-Loaded.field-0-is at c.in-Ok-Loaded.ensures.names) ∙ c.loop-fault.invariant.names;
       grows = extends_trans _ _ _ c.loop-fault.invariant.grows c.take_turn.ensures.grows;
       numbered = c.take_turn.ensures.numbered;
       lower =
@@ -74,6 +76,7 @@ loop-fault-preserved g c =
       sound = c.in-Ok-Ended.ensures.sound;
       little = λ small. c.in-Ok-Ended.ensures.little (c.loop-fault.invariant.little small);
       within = c.take_turn.ensures.within;
+      names = (rw c.in-Ok-Ended.field-0-is at c.in-Ok-Ended.ensures.names) ∙ c.loop-fault.invariant.names;
       grows = extends_trans _ _ _ c.loop-fault.invariant.grows c.take_turn.ensures.grows;
       numbered = c.take_turn.ensures.numbered;
       lower =
@@ -119,3 +122,12 @@ returns-in-Ok-Token-clause-loads g c = λ told small.
 
 pub returns-in-Ok-Token-clause-grows : goal.returns-in-Ok-Token-clause-grows
 returns-in-Ok-Token-clause-grows g c = extends_trans _ _ _ c.loop-fault.invariant.grows c.take_turn.ensures.grows
+
+pub returns-in-Err-clause-holds : goal.returns-in-Err-clause-holds
+returns-in-Err-clause-holds g c = holds_trans _ _ _ _ _ _ c.loop-fault.invariant.holds c.take_turn.ensures.holds
+
+pub returns-in-Ok-End-clause-holds : goal.returns-in-Ok-End-clause-holds
+returns-in-Ok-End-clause-holds g c = holds_trans _ _ _ _ _ _ c.loop-fault.invariant.holds c.take_turn.ensures.holds
+
+pub returns-in-Ok-Token-clause-holds : goal.returns-in-Ok-Token-clause-holds
+returns-in-Ok-Token-clause-holds g c = holds_trans _ _ _ _ _ _ c.loop-fault.invariant.holds c.take_turn.ensures.holds

@@ -25,6 +25,7 @@ invariant-loop-fault g l =
       sound : AreSound b;
       little : AreLittle a → AreLittle b;
       within : SourcesWithin (length l.names) b;
+      names : l.names ≡ l.initial.names;
       grows : Extends l.initial.names l.names;
       numbered : Numbered l.names;
       lower : room_of now b ≤ room_of old a;
