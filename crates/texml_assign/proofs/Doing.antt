@@ -4,6 +4,7 @@ use Rattle.std.specs.Result.{OnOk, IfOk}
 use Rattle.texml_base.specs.Outside.{Shelf}
 use Rattle.texml_token.proofs.Table.{extends_refl, extends_trans}
 use Rattle.texml_watch.specs.declared.record.Record.{Record}
+use Rattle.texml_expand.proofs.Progress.{progress_same, progress_then}
 use Rattle.texml_expand.specs.declared.stop.Stop.{Stop}
 use Rattle.texml_expand.specs.declared.stop.Stop.TheVariants as stop
 use Rattle.texml_expand.specs.State.{State, nothing, Answer, Done, Ended, Tex, Reading, chain, IsDecided, fault_at}
@@ -19,7 +20,6 @@ use Rattle.texml_expand.proofs.Running.{told_on, holding_then, holding_same, fil
 use Rattle.texml_expand.proofs.Taking.{silent_fault}
 use Rattle.texml_assign.specs.Loop.{Next, On, Over, LoopOver, loops}
 use Rattle.texml_expand.specs.Expand.{ByDepth}
-use Rattle.texml_assign.specs.Advance.{Advances}
 use Rattle.texml_assign.specs.Doing.{Does}
 use Rattle.texml_assign.proofs.Readings.{IsUnlimited, Lawful, Sure, sure, sure_reading, Plain, chained, follows_then, follows_stop, follows_silent, follows_quiet, follows_out, spends_behind, spent_broken, spent_decided, spent_settled}
 use Rattle.texml_assign.proofs.Looping.{LawfulLoop, LoopOnward, onward_start, loop_stops, loop_ends, turn_stops, turn_over, turn_out, turn_onward, LoopPays, pays_start, loop_stops_pays, loop_ends_pays, turn_stops_pays, turn_over_pays, turn_out_pays, turn_onward_pays}
@@ -71,22 +71,8 @@ puts_behind (Ok v) k a b h i j p q = shrinks_puts k k 0 a b h i j p q (omega ari
 puts_behind (Err e) k a b h i j p q = tt
 
 -- an engine goes on
-pub advances_same : (h i : Held) → i ≡ h → Advances h i
-advances_same h i e = subst (Advances h) (sym e) (record { names = extends_refl h.names; begun = omega arith; limit = refl; writes = omega arith })
-
-pub advances_stopped : (h i : Held) (s : Option Stop) → i ≡ record h { stop = s } → Advances h i
-advances_stopped h i s e = subst (Advances h) (sym e) (record { names = extends_refl h.names; begun = omega arith; limit = refl; writes = omega arith })
-
-pub advances_then : (h i j : Held) → Advances h i → Advances i j → Advances h j
-advances_then h i j a b = record {
-  names = extends_trans h.names i.names j.names a.names b.names;
-  begun = let x = a.begun in let y = b.begun in omega arith;
-  limit = b.limit ∙ a.limit;
-  writes = let x = a.writes in let y = b.writes in omega arith;
-}
-
-pub advances_progress : (h i : Held) → Progress h i → Advances h i
-advances_progress h i p = record { names = p.names; begun = p.begun; limit = p.limit; writes = let e = p.writes in omega arith }
+pub advances_stopped : (h i : Held) (s : Option Stop) → i ≡ record h { stop = s } → Progress h i
+advances_stopped h i s e = subst (Progress h) (sym e) (record { names = extends_refl h.names; begun = omega arith; within = λ b. b; limit = refl; writes = omega arith })
 
 -- nothing outside was asked
 limit_none : {A : Type 0} (r : Result A Stop) (new : State) (a : Answer A) (h : Held) → IsUnlimited a → Silent a r new → IsAtLimit r h
@@ -120,7 +106,7 @@ module _ {T : Type 0} (hear part : T → Record → T → Type 0) where
     stops = stops_then v result x y z mid.stop new.stop g.stops h.stops;
     limit = h.limit;
     keeps = keeps_then result old mid new g.keeps h.keeps;
-    advances = advances_then old mid new g.advances h.advances;
+    advances = progress_then old mid new g.advances h.advances;
     holds = holding_then _ _ _ _ _ _ g.holds h.holds;
     shrinks = shrinks_behind result _ _ g.shrinks h.shrinks;
   }
@@ -149,7 +135,7 @@ module _ {T : Type 0} (hear part : T → Record → T → Type 0) where
 
   -- a call that asks nothing outside
   pub does_local_sure : {A : Type 0} (r : Reading A) → ((s : State) → IsDecided (r s)) → ((s : State) → IsUnlimited (r s)) → (result : Result A Stop) (old new : Held) (x : Outside) (a : T) → Owns x.shelf old
-      → Local r result old new → new.stop ≡ stop_after result → OnOk result (Kept old new) → Advances old new → SameFiles old new → OnOk result (Puts 0 old new) → Does hear part (λ n. r) result old new x x a a
+      → Local r result old new → new.stop ≡ stop_after result → OnOk result (Kept old new) → Progress old new → SameFiles old new → OnOk result (Puts 0 old new) → Does hear part (λ n. r) result old new x x a a
   does_local_sure r decided unlimited result old new x a owns h kept keeps advances files puts =
       let s = h x.shelf in
       record {
@@ -164,7 +150,7 @@ module _ {T : Type 0} (hear part : T → Record → T → Type 0) where
       }
 
   pub does_local : {A : Type 0} (r : Reading A) → Plain r → (result : Result A Stop) (old new : Held) (x : Outside) (a : T) → Owns x.shelf old
-      → Local r result old new → new.stop ≡ stop_after result → OnOk result (Kept old new) → Advances old new → SameFiles old new → OnOk result (Puts 0 old new) → Does hear part (λ n. r) result old new x x a a
+      → Local r result old new → new.stop ≡ stop_after result → OnOk result (Kept old new) → Progress old new → SameFiles old new → OnOk result (Puts 0 old new) → Does hear part (λ n. r) result old new x x a a
   does_local r p result old new x a owns h kept keeps advances files puts = does_local_sure r p.decided p.unlimited result old new x a owns h kept keeps advances files puts
 
   -- one that changes nothing, or stops
@@ -179,7 +165,7 @@ module _ {T : Type 0} (hear part : T → Record → T → Type 0) where
 
   -- what is put back of what was taken before
   pub does_put : {A B : Type 0} (k : ℕ) (r : ByDepth A) (f : A → Reading B) → Lawful r → ((v : A) (s : State) → IsDecided (f v s)) → ((v : A) (s : State) → IsUnlimited (f v s)) → (v : A) (result : Result B Stop) (old mid new : Held) (x y : Outside) (a b : T)
-      → Does hear part r (Ok v) old mid x y a b → Shrinks k x.shelf old y.shelf mid → Local (f v) result mid new → new.stop ≡ stop_after result → OnOk result (Kept mid new) → Advances mid new → SameFiles mid new → OnOk result (Puts k mid new)
+      → Does hear part r (Ok v) old mid x y a b → Shrinks k x.shelf old y.shelf mid → Local (f v) result mid new → new.stop ≡ stop_after result → OnOk result (Kept mid new) → Progress mid new → SameFiles mid new → OnOk result (Puts k mid new)
       → Does hear part (chained r (λ v n. f v)) result old new x y a b
   does_put k r f l decided unlimited v result old mid new x y a b g takes h kept keeps advances files puts =
       let s = h y.shelf in
@@ -190,14 +176,14 @@ module _ {T : Type 0} (hear part : T → Record → T → Type 0) where
         stops = stops_then v result x y y mid.stop new.stop g.stops (stops_same result y new.stop kept (silent_fails_not (f v (state_of y.shelf mid)) result (state_of y.shelf new) s));
         limit = limit_none result (state_of y.shelf new) (f v (state_of y.shelf mid)) new (unlimited v (state_of y.shelf mid)) s;
         keeps = keeps_then result old mid new g.keeps keeps;
-        advances = advances_then old mid new g.advances advances;
+        advances = progress_then old mid new g.advances advances;
         holds = holding_then _ _ _ _ _ _ g.holds (holding_same y.shelf mid new g.holds.owns files);
         shrinks = puts_behind result k x.shelf y.shelf old mid new takes puts;
       }
 
   -- a value that is had without a change
   pub does_now : {A : Type 0} (r : Reading A) → Plain r → (v : A) (h : Held) (x : Outside) (a : T) → Sound h → Owns x.shelf h → h.stop ≡ None → ((shelf : Shelf) → r (state_of shelf h) ≡ Done v (state_of shelf h) nothing) → Does hear part (λ n. r) (Ok v) h h x x a a
-  does_now r p v h x a sound owns running e = does_local r p (Ok v) h h x a owns e running (kept_itself h sound) (advances_same h h refl) (files_same h h refl) (puts_stopped h h h.stop refl)
+  does_now r p v h x a sound owns running e = does_local r p (Ok v) h h x a owns e running (kept_itself h sound) (progress_same h h refl) (files_same h h refl) (puts_stopped h h h.stop refl)
 
   -- a fault
   pub does_fault : {A : Type 0} (r : Reading A) → Plain r → (code : ℕ) (e : Stop) (old new : Held) (x : Outside) (a : T) → Owns x.shelf old → ((shelf : Shelf) → r (state_of shelf old) ≡ Ended (Tex (fault_at code [] (place_of old))) nothing)
@@ -215,7 +201,7 @@ module _ {T : Type 0} (hear part : T → Record → T → Type 0) where
     stops = record { kept = stops.kept; reads = stops.reads; tells = stops.tells; loan = stops.loan };
     limit = tt;
     keeps = keeps;
-    advances = advances_progress old new progress;
+    advances = progress;
     holds = holds;
     shrinks = shrinks;
   }
@@ -225,7 +211,7 @@ module _ {T : Type 0} (hear part : T → Record → T → Type 0) where
     stops = stops_as A B e x y new.stop stops;
     limit = limit_as A B e new limit;
     keeps = tt;
-    advances = advances_progress old new progress;
+    advances = progress;
     holds = holds;
     shrinks = tt;
   }
@@ -238,7 +224,7 @@ module _ {T : Type 0} (hear part : T → Record → T → Type 0) where
     stops = stops;
     limit = limit;
     keeps = keeps;
-    advances = advances_progress old new progress;
+    advances = progress;
     holds = holds;
     shrinks = shrinks;
   }
@@ -291,7 +277,7 @@ module _ {T : Type 0} (hear part : T → Record → T → Type 0) where
       pub onward : IsTrue x.shelf.tells → LoopOnward loop laws hear part first (state_of x.shelf old) a seen (state_of y.shelf now) b
       pub pays : IsTrue x.shelf.tells → AreLittle old.input.sources → LoopPays loop laws hear part first (state_of x.shelf old) x.shelf old.input.sources seen (state_of y.shelf now) y.shelf now.input.sources
       pub calm : Stops {A = Unit {0}} (Ok tt) x y now.stop
-      pub advances : Advances old now
+      pub advances : Progress old now
       pub holds : Holding x.shelf y.shelf old now
       pub shrinks : Shrinks 0 x.shelf old y.shelf now
 
@@ -302,21 +288,21 @@ module _ {T : Type 0} (hear part : T → Record → T → Type 0) where
       onward = λ told. onward_start loop laws hear part seen (state_of x.shelf h) a;
       pays = λ told little. pays_start loop laws hear part seen (state_of x.shelf h) x.shelf h.input.sources little;
       calm = record { kept = running; reads = refl; tells = refl; loan = refl };
-      advances = advances_same h h refl;
+      advances = progress_same h h refl;
       holds = holding_same x.shelf h h owns (files_same h h refl);
       shrinks = shrinks_none x.shelf h;
     }
 
     -- the end of a loop, by that of its last turn
     ends : (result : Result A Stop) (first : S) (old now new : Held) (x y z : Outside) (a b c : T) (seen : S) → Goes first old x a seen now y b → FollowsTold hear part x.shelf (λ n. loops loop first n (state_of x.shelf old)) result (state_of z.shelf new) a c → SpendsBy (λ n. loops loop first n (state_of x.shelf old)) result x.shelf z.shelf old new
-        → Stops result y z new.stop → IsAtLimit result new → OnOk result (Kept now new) → Advances now new → Holding y.shelf z.shelf now new → OnOk result (Shrinks 0 y.shelf now z.shelf new) → Does hear part (loops loop first) result old new x z a c
+        → Stops result y z new.stop → IsAtLimit result new → OnOk result (Kept now new) → Progress now new → Holding y.shelf z.shelf now new → OnOk result (Shrinks 0 y.shelf now z.shelf new) → Does hear part (loops loop first) result old new x z a c
     ends result first old now new x y z a b c seen g follows spends stops limit keeps advances holds shrinks = record {
       follows = follows;
       spends = spends;
       stops = stops_then tt result x y z now.stop new.stop g.calm stops;
       limit = limit;
       keeps = keeps_then result old now new g.kept keeps;
-      advances = advances_then old now new g.advances advances;
+      advances = progress_then old now new g.advances advances;
       holds = holding_then _ _ _ _ _ _ g.holds holds;
       shrinks = shrinks_behind result _ _ g.shrinks shrinks;
     }
@@ -336,7 +322,7 @@ module _ {T : Type 0} (hear part : T → Record → T → Type 0) where
         ends result first old now new x y w a b d seen g
         (λ told. loop_ends loop laws hear part result first seen (state_of x.shelf old) (state_of y.shelf now) (state_of z.shelf mid) (state_of w.shelf new) a b c d (g.onward told) (s.follows (told_on _ _ _ _ g.holds told)) (e.follows (told_on _ _ _ _ s.holds (told_on _ _ _ _ g.holds told))))
         (λ told little. let on = told_on _ _ _ _ g.holds told in loop_ends_pays loop laws hear part first seen (state_of x.shelf old) (state_of y.shelf now) x.shelf y.shelf old.input.sources now.input.sources (g.pays told little) (state_of z.shelf mid) z.shelf mid.input.sources b c result w.shelf new.input.sources (s.follows on) (s.spends on) (e.spends (told_on _ _ _ _ s.holds on)))
-        (stops_then None result y z w mid.stop new.stop s.stops e.stops) e.limit (keeps_then result now mid new s.keeps e.keeps) (advances_then now mid new s.advances e.advances) (holding_then _ _ _ _ _ _ s.holds e.holds) (shrinks_behind result _ _ s.shrinks e.shrinks)
+        (stops_then None result y z w mid.stop new.stop s.stops e.stops) e.limit (keeps_then result now mid new s.keeps e.keeps) (progress_then now mid new s.advances e.advances) (holding_then _ _ _ _ _ _ s.holds e.holds) (shrinks_behind result _ _ s.shrinks e.shrinks)
 
     -- a turn that stops
     pub goes_turn_stops : (t : X) (e : Stop) (first seen : S) (old now mid new : Held) (x y z w : Outside) (a b c d : T) → Goes first old x a seen now y b → Does hear part loop.source (Ok (Some t)) now mid y z b c
@@ -345,7 +331,7 @@ module _ {T : Type 0} (hear part : T → Record → T → Type 0) where
         ends (Err e) first old now new x y w a b d seen g
         (λ told. turn_stops loop laws hear part t e first seen (state_of x.shelf old) (state_of y.shelf now) (state_of z.shelf mid) (state_of w.shelf new) a b c d (g.onward told) (s.follows (told_on _ _ _ _ g.holds told)) (h.follows (told_on _ _ _ _ s.holds (told_on _ _ _ _ g.holds told))))
         (λ told little. let on = told_on _ _ _ _ g.holds told in turn_stops_pays loop laws hear part first seen (state_of x.shelf old) (state_of y.shelf now) x.shelf y.shelf old.input.sources now.input.sources (g.pays told little) (state_of z.shelf mid) z.shelf mid.input.sources b c t (s.follows on) (s.spends on) e w.shelf new.input.sources (h.spends (told_on _ _ _ _ s.holds on)))
-        (stops_then (Some t) (Err e) y z w mid.stop new.stop s.stops (stops_as (Next S A) A e z w new.stop h.stops)) (limit_as (Next S A) A e new h.limit) tt (advances_then now mid new s.advances h.advances) (holding_then _ _ _ _ _ _ s.holds h.holds) tt
+        (stops_then (Some t) (Err e) y z w mid.stop new.stop s.stops (stops_as (Next S A) A e z w new.stop h.stops)) (limit_as (Next S A) A e new h.limit) tt (progress_then now mid new s.advances h.advances) (holding_then _ _ _ _ _ _ s.holds h.holds) tt
 
     -- a turn behind which it is over
     pub goes_over : (t : X) (v : A) (first seen : S) (old now mid new : Held) (x y z w : Outside) (a b c d : T) → Goes first old x a seen now y b → Does hear part loop.source (Ok (Some t)) now mid y z b c
@@ -355,7 +341,7 @@ module _ {T : Type 0} (hear part : T → Record → T → Type 0) where
         ends (Ok v) first old now new x y w a b d seen g
         (λ told. turn_over loop laws hear part t v first seen (state_of x.shelf old) (state_of y.shelf now) (state_of z.shelf mid) (state_of w.shelf new) a b c d (g.onward told) (s.follows (told_on _ _ _ _ g.holds told)) (h.follows (told_on _ _ _ _ s.holds (told_on _ _ _ _ g.holds told))))
         (λ told little. let on = told_on _ _ _ _ g.holds told in turn_over_pays loop laws hear part first seen (state_of x.shelf old) (state_of y.shelf now) x.shelf y.shelf old.input.sources now.input.sources (g.pays told little) (state_of z.shelf mid) z.shelf mid.input.sources b c t (s.follows on) (s.spends on) (state_of w.shelf new) w.shelf new.input.sources d v (h.follows (told_on _ _ _ _ s.holds on)) (h.spends (told_on _ _ _ _ s.holds on)))
-        (record { kept = s'.kept; reads = s'.reads; tells = s'.tells; loan = s'.loan }) tt (kept_then now mid new s.keeps h.keeps) (advances_then now mid new s.advances h.advances) (holding_then _ _ _ _ _ _ s.holds h.holds) (shrinks_on s.shrinks h.shrinks)
+        (record { kept = s'.kept; reads = s'.reads; tells = s'.tells; loan = s'.loan }) tt (kept_then now mid new s.keeps h.keeps) (progress_then now mid new s.advances h.advances) (holding_then _ _ _ _ _ _ s.holds h.holds) (shrinks_on s.shrinks h.shrinks)
 
     -- want of memory behind a turn
     pub goes_out : (t : X) (next : Next S A) (e : Stop) (first seen : S) (old now mid far new : Held) (x y z w : Outside) (a b c d : T) → Goes first old x a seen now y b → Does hear part loop.source (Ok (Some t)) now mid y z b c
@@ -367,7 +353,7 @@ module _ {T : Type 0} (hear part : T → Record → T → Type 0) where
         (λ told. turn_out loop laws hear part t next first seen (state_of x.shelf old) (state_of y.shelf now) (state_of z.shelf mid) (state_of w.shelf far) (state_of w.shelf new) a b c d (g.onward told) (s.follows (told_on _ _ _ _ g.holds told)) (h.follows (told_on _ _ _ _ s.holds (told_on _ _ _ _ g.holds told))))
         (λ told little. let on = told_on _ _ _ _ g.holds told in turn_out_pays loop laws hear part first seen (state_of x.shelf old) (state_of y.shelf now) x.shelf y.shelf old.input.sources now.input.sources (g.pays told little) (state_of z.shelf mid) z.shelf mid.input.sources b c t (s.follows on) (s.spends on) (state_of w.shelf far) w.shelf far.input.sources d next new.input.sources (files_stopped far new stop.NoMemory e').readers (h.follows (told_on _ _ _ _ s.holds on)) (h.spends (told_on _ _ _ _ s.holds on)))
         (record { kept = ap (λ (h : Held). h.stop) e'; reads = s'.reads; tells = s'.tells; loan = s'.loan }) tt tt
-        (advances_then now far new (advances_then now mid far s.advances h.advances) (advances_stopped far new (Some stop.NoMemory) e'))
+        (progress_then now far new (progress_then now mid far s.advances h.advances) (advances_stopped far new (Some stop.NoMemory) e'))
         (holding_then _ _ _ _ _ _ (holding_then _ _ _ _ _ _ s.holds h.holds) (holding_same w.shelf far new h.holds.owns (files_stopped far new stop.NoMemory e'))) tt)
 
     -- a turn behind which it goes on
@@ -384,7 +370,7 @@ module _ {T : Type 0} (hear part : T → Record → T → Type 0) where
               let on = told_on _ _ _ _ g.holds told in
               turn_onward_pays loop laws hear part first seen (state_of x.shelf old) (state_of y.shelf now) x.shelf y.shelf old.input.sources now.input.sources (g.pays told little) (state_of z.shelf mid) z.shelf mid.input.sources b c t (s.follows on) (s.spends on) (state_of w.shelf new) w.shelf new.input.sources d more (h.follows (told_on _ _ _ _ s.holds on)) (h.spends (told_on _ _ _ _ s.holds on));
           calm = record { kept = t'.kept; reads = t'.reads; tells = t'.tells; loan = t'.loan };
-          advances = advances_then old now new g.advances (advances_then now mid new s.advances h.advances);
+          advances = progress_then old now new g.advances (progress_then now mid new s.advances h.advances);
           holds = holding_then _ _ _ _ _ _ g.holds (holding_then _ _ _ _ _ _ s.holds h.holds);
           shrinks = shrinks_on g.shrinks (shrinks_on s.shrinks h.shrinks);
         }

@@ -1,6 +1,7 @@
 -- What an engine stands for when its world is changed.
-use Rattle.std.proofs.Common.{◌≡◌, ◌≤◌, ◌+◌, ℕ, [], ◌∷◌, map, arith, Bool, true, false, List, length, Option, None, Some, option_map, Result, Ok, Err, refl, sym, ap, ap₂, ◌∙◌, subst}
+use Rattle.std.proofs.Common.{◌≡◌, ◌≢◌, ◌≤◌, ◌+◌, ℕ, [], ◌∷◌, map, arith, Bool, true, false, List, length, Option, None, Some, option_map, Result, Ok, Err, refl, sym, ap, ap₂, ◌∙◌, subst}
 use Rattle.std.specs.Option.{option_to_list}
+use Rattle.std.specs.List.{All}
 use Rattle.std.proofs.lemmas.List.Elements.{All-tail}
 use Rattle.std.proofs.lemmas.List.Sums.{sum_by-cons}
 use Rattle.texml_base.specs.Outside.{Shelf}
@@ -14,7 +15,7 @@ use Rattle.texml_scope.specs.declared.values.KeyOf.TheVariants as keys
 use Rattle.texml_scope.specs.declared.values.FaultOf.TheVariants.{NoGroup, WrongGroup}
 use Rattle.texml_scope.specs.Groups.{EndFault, fault_at, begin_group, keep_after, end_group}
 use Rattle.texml_scope.specs.Values.{same_key, same_kind}
-use Rattle.texml_scope.specs.Shown.{Shown, KeyCode, ValueCode, world_of}
+use Rattle.texml_scope.specs.Shown.{Shown, KeyCode, ValueCode, world_of, RoseByChanges}
 use Rattle.texml_scope.specs.Numbers.{KindCode, world_at, answer_at, key_at, key_back, value_at, kind_at, KeyWithin, KindWithin, ValueWithin, WorldCovered}
 use Rattle.texml_scope.proofs.Texts.{world_stays, world_set_local, world_set_global, world_begin, world_keep_after, world_end}
 use Rattle.texml_scope.proofs.Covering.{world_more, set_local_covered, set_global_covered, begin_covered, keep_after_covered, end_covered}
@@ -23,16 +24,16 @@ use Rattle.texml_expand.specs.declared.stop.Stop.TheVariants as stop
 use Rattle.texml_expand.specs.State.{State, nothing, Done, Ended, Tex, change}
 use Rattle.texml_expand.specs.State.{fault_at as fault_here}
 use Rattle.texml_expand.specs.Expand.{back, put}
-use Rattle.texml_expand.specs.Held.{Held, state_of, place_of, Sound, Kept, SameFiles, Puts}
+use Rattle.texml_expand.specs.Held.{Held, state_of, place_of, Sound, Kept, SameFiles, Puts, Progress}
 use Rattle.texml_expand.specs.Contract.{IsFaultAt, Silent, Local}
 use Rattle.texml_input.specs.Rest.{items_at}
 use Rattle.texml_input.specs.Held.{Source, Plain, Marked, File, Fence, aside_of, SourceWithin, SourcesWithin}
 use Rattle.texml_input.proofs.Sources.{rest_grown, sources_more}
 use Rattle.texml_expand.proofs.Taking.{silent_fault}
 use Rattle.texml_assign.specs.Sets.{set, begin_kind, end_code, ended, end_kind, read_after, put_kept_of, put_kept}
-use Rattle.texml_assign.specs.Advance.{Advances}
 use Rattle.texml_assign.proofs.Rooms.{kept_after, below_room, keep_room, ended_room}
-use Rattle.texml_assign.proofs.Doing.{advances_then, advances_stopped}
+use Rattle.texml_expand.proofs.Progress.{progress_then}
+use Rattle.texml_assign.proofs.Doing.{advances_stopped}
 use Rattle.texml_assign.specs.Setting.{set_by}
 
 -- a given key stays as the table grows
@@ -43,11 +44,11 @@ key_stays old new g (keys.Within n) h = ap keys.Within (g.texts n.0 h.1)
 key_stays old new g k h = refl
 
 -- steps were taken to write values, and perhaps the engine stopped then
-pub advances_wrote : (h new : Held) (scope : Shown) (more : ℕ) → new ≡ record h { scope = scope; writes = add_up h.writes more } → Advances h new
-advances_wrote h new scope more e = subst (Advances h) (sym e) (record { names = extends_refl h.names; begun = omega arith; limit = refl; writes = omega arith })
+pub advances_wrote : (h new : Held) (scope : Shown) (more : ℕ) → new ≡ record h { scope = scope; writes = add_up h.writes more } → Progress h new
+advances_wrote h new scope more e = subst (Progress h) (sym e) (record { names = extends_refl h.names; begun = omega arith; within = λ b. b; limit = refl; writes = omega arith })
 
-pub advances_stops : (h mid new : Held) (scope : Shown) (more : ℕ) (s : Option Stop) → mid ≡ record h { scope = scope; writes = add_up h.writes more } → new ≡ record mid { stop = s } → Advances h new
-advances_stops h mid new scope more s e f = advances_then h mid new (advances_wrote h mid scope more e) (advances_stopped mid new s f)
+pub advances_stops : (h mid new : Held) (scope : Shown) (more : ℕ) (s : Option Stop) → mid ≡ record h { scope = scope; writes = add_up h.writes more } → new ≡ record mid { stop = s } → Progress h new
+advances_stops h mid new scope more s e f = progress_then h mid new (advances_wrote h mid scope more e) (advances_stopped mid new s f)
 
 -- names are added
 asides_grown : (old new : Table) (shelf : Shelf) → Extends old new → (ss : List Source) → SourcesWithin (length old) ss → map (items_at new) (aside_of shelf ss) ≡ map (items_at old) (aside_of shelf ss)
@@ -87,8 +88,8 @@ names_kept h names s g numbered = record {
   };
 }
 
-pub advances_names : (h new : Held) (names : Table) (s : Option Stop) → Extends h.names names → new ≡ record h { names = names; stop = s } → Advances h new
-advances_names h new names s g e = subst (Advances h) (sym e) (record { names = g; begun = omega arith; limit = refl; writes = omega arith })
+pub advances_names : (h new : Held) (names : Table) (s : Option Stop) → Extends h.names names → new ≡ record h { names = names; stop = s } → Progress h new
+advances_names h new names s g e = subst (Progress h) (sym e) (record { names = g; begun = omega arith; within = λ b. b; limit = refl; writes = omega arith })
 
 pub files_names : (h new : Held) (names : Table) (s : Option Stop) → new ≡ record h { names = names; stop = s } → SameFiles h new
 files_names h new names s e = subst (SameFiles h) (sym e) (record { ids = refl; readers = refl })
@@ -97,9 +98,25 @@ files_names h new names s e = subst (SameFiles h) (sym e) (record { ids = refl; 
 abbrev pub IsPut : (h new : Held) → (State → State) → Result (Unit {0}) Stop → Type 0
 IsPut h new f r = MatchResult r (λ _. (shelf : Shelf) → state_of shelf new ≡ f (state_of shelf h)) (λ s. (s ≡ stop.NoMemory) × (new ≡ record h { stop = Some stop.NoMemory }))
 
-pub advances_put : (h new : Held) (f : State → State) (r : Result (Unit {0}) Stop) → IsPut h new f r → OnOk r (new ≡ record h { input = new.input }) → Advances h new
-advances_put h new f (Ok v) m e = subst (Advances h) (sym e) (record { names = extends_refl h.names; begun = omega arith; limit = refl; writes = omega arith })
+pub advances_put : (h new : Held) (f : State → State) (r : Result (Unit {0}) Stop) → IsPut h new f r → OnOk r (new ≡ record h { input = new.input }) → Progress h new
+advances_put h new f (Ok v) m e = subst (Progress h) (sym e) (record { names = extends_refl h.names; begun = omega arith; within = λ b. b; limit = refl; writes = omega arith })
 advances_put h new f (Err s) m e = advances_stopped h new (Some stop.NoMemory) m.1
+
+-- no step was taken, and the scope is as before
+pub put_writes : (h new : Held) (f : State → State) (r : Result (Unit {0}) Stop) → IsPut h new f r → OnOk r (new ≡ record h { input = new.input }) → (new.writes ≡ h.writes) × (new.scope ≡ h.scope)
+put_writes h new f (Ok v) m e = (ap (λ (i : Held). i.writes) e, ap (λ (i : Held). i.scope) e)
+put_writes h new f (Err s) m e = (ap (λ (i : Held). i.writes) m.1, ap (λ (i : Held). i.scope) m.1)
+
+-- so many steps were taken for the values that a group gives back
+pub end_few : (h mid new : Held) (scope : Shown) (steps saved : ℕ) → mid ≡ record h { scope = scope; writes = add_up h.writes steps } → new.writes ≡ mid.writes → steps ≤ 0 + saved → new.writes ≤ h.writes + saved
+end_few h mid new scope steps saved e w few = let m : mid.writes ≡ add_up h.writes steps = ap (λ (i : Held). i.writes) e in omega (arith, w, m, few)
+
+pub end_many : (h mid new : Held) (scope : Shown) (steps : ℕ) → mid ≡ record h { scope = scope; writes = add_up h.writes steps } → (new.writes ≡ mid.writes) × (new.scope ≡ mid.scope) → RoseByChanges (world_of h.scope) (world_of scope) 0 steps → RoseByChanges (world_of h.scope) (world_of new.scope) h.writes new.writes
+end_many h mid new scope steps e w many = λ keys different changed.
+    let m : mid.writes ≡ add_up h.writes steps = ap (λ (i : Held). i.writes) e in
+    let s : new.scope ≡ scope = w.1 ∙ ap (λ (i : Held). i.scope) e in
+    let few = many keys different (subst (λ (x : Shown). All (λ k. (world_of h.scope).top k ≢ (world_of x).top k) keys) s changed) in
+    omega (arith, w.0, m, few)
 
 pub put_local : (h new : Held) (f g : State → State) (r : Result (Unit {0}) Stop) → ((shelf : Shelf) → g (state_of shelf h) ≡ f (state_of shelf h)) → IsPut h new f r → Local (change g) r h new
 put_local h new f g (Ok v) e m = λ shelf. ap (λ s. Done tt s nothing) (e shelf ∙ sym (m shelf))
@@ -228,8 +245,8 @@ puts_set h mid t is = subst (Puts 1 h) (sym is) (record { limit = refl; nesting 
 pub kept_set : (h mid : Held) (t : TokenCode) → Sound h → TokenWithin (length h.names) t → mid ≡ record h { kept = Some t } → Kept h mid
 kept_set h mid t sound given is = subst (Kept h) (sym is) (record { grows = extends_refl h.names; sound = record { numbered = sound.numbered; sources = sound.sources; ready = sound.ready; kept = given; scope = sound.scope; budget = sound.budget } })
 
-pub advances_set : (h mid : Held) (t : Option TokenCode) → mid ≡ record h { kept = t } → Advances h mid
-advances_set h mid t is = subst (Advances h) (sym is) (record { names = extends_refl h.names; begun = omega arith; limit = refl; writes = omega arith })
+pub advances_set : (h mid : Held) (t : Option TokenCode) → mid ≡ record h { kept = t } → Progress h mid
+advances_set h mid t is = subst (Progress h) (sym is) (record { names = extends_refl h.names; begun = omega arith; within = λ b. b; limit = refl; writes = omega arith })
 
 pub kept_within : (h : Held) (t : TokenCode) → Sound h → h.kept ≡ Some t → TokenWithin (length h.names) t
 kept_within h t sound e = subst (OptionWithin (TokenWithin (length h.names))) e sound.kept

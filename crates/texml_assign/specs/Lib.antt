@@ -14,7 +14,6 @@ pub mod NewCommand
 pub mod NewIf
 pub mod Letters
 pub mod Execute
-pub mod Advance
 pub mod Doing
 pub mod Setting
 pub mod Behind

@@ -8,8 +8,7 @@ ghost use Rattle.texml_expand.specs.State.{State};
 ghost use Rattle.texml_expand.specs.Contract.{AnswersKept, Stops, outside};
 ghost use Rattle.texml_expand.specs.Hearing.{hears, hears_part, FollowsTold};
 ghost use Rattle.texml_expand.specs.Spending.{SpendsBy};
-ghost use Rattle.texml_expand.specs.Held.{state_of, Sound, Kept, IsAtLimit, Owns, Holding, Shrinks};
-ghost use Rattle.texml_assign.specs.Advance.{Advances};
+ghost use Rattle.texml_expand.specs.Held.{state_of, Sound, Kept, IsAtLimit, Owns, Holding, Shrinks, Progress};
 ghost use Rattle.texml_assign.specs.Doing.{Does};
 ghost use Rattle.texml_assign.specs.Table.{executable_of as spec_executable_of};
 ghost use Rattle.texml_assign.specs.Operands.{with_token};
@@ -82,7 +81,7 @@ pub fn execute<F: Files, T: Teller>(
     ensures stops { engine.old.stop ≡ None → Stops result (outside (F.shelf files.old) (F.faults files.old) (T.faults tell.old) (T.loan tell.old)) (outside (F.shelf files.new) (F.faults files.new) (T.faults tell.new) (T.loan tell.new)) engine.new.stop }
     ensures lower { engine.old.stop ≡ None → OnOk result (Shrinks 0 (F.shelf files.old) engine.old (F.shelf files.new) engine.new) }
     ensures keeps { engine.old.stop ≡ None → OnOk result (Kept engine.old engine.new) }
-    ensures advances { Advances engine.old engine.new }
+    ensures advances { Progress engine.old engine.new }
     ensures limit { engine.old.stop ≡ None → IsAtLimit result engine.new }
     ensures same { IfOk result (λ done. done ≡ Executed.NotMine → (engine.new ≡ engine.old) × (files.new ≡ files.old) × (tell.new ≡ tell.old)) }
     ensures stays { IfSome engine.old.stop (λ stop. AnswersKept stop result × (engine.new ≡ engine.old) × (files.new ≡ files.old) × (tell.new ≡ tell.old)) }

@@ -6,9 +6,8 @@ ghost use Rattle.texml_expand.specs.Take.{means};
 ghost use Rattle.texml_scope.specs.Numbers.{meaning_at};
 ghost use Rattle.texml_expand.specs.Contract.{Local, outside, stop_after};
 ghost use Rattle.texml_expand.specs.Hearing.{hears, hears_part};
-ghost use Rattle.texml_expand.specs.Held.{Sound, Kept, ok_at, world_in, Owns, SameFiles, Shrinks, Puts};
+ghost use Rattle.texml_expand.specs.Held.{Sound, Kept, ok_at, world_in, Owns, SameFiles, Shrinks, Puts, Progress};
 ghost use Rattle.texml_expand.specs.Fronts.{looked_at, LookedWithin};
-ghost use Rattle.texml_assign.specs.Advance.{Advances};
 ghost use Rattle.texml_assign.specs.Doing.{Does};
 ghost use Rattle.texml_assign.specs.Fillers.{is_relax as spec_is_relax, fills as spec_fills, first_behind as spec_first_behind, past_equals as spec_past_equals, optional_equals as spec_optional_equals, put_looked as spec_put_looked, ignore_spaces as spec_ignore_spaces};
 
@@ -129,7 +128,7 @@ fn past_equals(engine: &mut Engine, first: Option<Looked>) -> Result<(), Stop>
     ensures is { Local (spec_past_equals (option_map (looked_at engine.old.names) first)) result engine.old engine.new }
     ensures kept { engine.new.stop ≡ stop_after result }
     ensures keeps { OnOk result (Kept engine.old engine.new) }
-    ensures advances { Advances engine.old engine.new }
+    ensures advances { Progress engine.old engine.new }
     ensures files { SameFiles engine.old engine.new }
     ensures puts { OnOk result (Puts (length (option_to_list first)) engine.old engine.new) }
 {
@@ -171,7 +170,7 @@ fn put_looked(engine: &mut Engine, looked: Option<Looked>) -> Result<(), Stop>
     ensures is { Local (spec_put_looked (option_map (looked_at engine.old.names) looked)) result engine.old engine.new }
     ensures kept { engine.new.stop ≡ stop_after result }
     ensures keeps { OnOk result (Kept engine.old engine.new) }
-    ensures advances { Advances engine.old engine.new }
+    ensures advances { Progress engine.old engine.new }
     ensures files { SameFiles engine.old engine.new }
     ensures puts { OnOk result (Puts (length (option_to_list looked)) engine.old engine.new) }
 {

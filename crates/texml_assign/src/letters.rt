@@ -11,8 +11,7 @@ ghost use Rattle.texml_expand.specs.State.{change};
 ghost use Rattle.texml_expand.specs.Contract.{Local, outside, stop_after};
 ghost use Rattle.texml_expand.specs.Fronts.{looked_at, LookedWithin};
 ghost use Rattle.texml_expand.specs.Hearing.{hears, hears_part};
-ghost use Rattle.texml_expand.specs.Held.{Sound, Kept, ok_at, world_in, Owns, SameFiles, Shrinks, Puts};
-ghost use Rattle.texml_assign.specs.Advance.{Advances};
+ghost use Rattle.texml_expand.specs.Held.{Sound, Kept, ok_at, world_in, Owns, SameFiles, Shrinks, Puts, Progress};
 ghost use Rattle.texml_assign.specs.Doing.{Does};
 ghost use Rattle.texml_assign.specs.Letters.{group_from as spec_group_from, group_by as spec_group_by, next_group as spec_next_group, case_key as spec_case_key, code_or as spec_code_or, code_in as spec_code_in, token_in as spec_token_in, put_in_case as spec_put_in_case, change_case as spec_change_case};
 
@@ -123,7 +122,7 @@ fn put_in_case(alloc: Global, engine: &mut Engine, case: Case, list: &Tokens) ->
     ensures changes { Local (change (spec_put_in_case case (tokens_at engine.old.names list.now))) result engine.old engine.new }
     ensures kept { engine.new.stop ≡ stop_after result }
     ensures keeps { OnOk result (Kept engine.old engine.new) }
-    ensures advances { Advances engine.old engine.new }
+    ensures advances { Progress engine.old engine.new }
     ensures files { SameFiles engine.old engine.new }
     ensures puts { OnOk result (Puts (length list.now) engine.old engine.new) }
 {

@@ -10,8 +10,7 @@ ghost use Rattle.texml_scope.specs.Numbers.{name_text, IsGiven};
 ghost use Rattle.texml_expand.specs.State.{change};
 ghost use Rattle.texml_expand.specs.Contract.{Local, outside, stop_after};
 ghost use Rattle.texml_expand.specs.Hearing.{hears, hears_part};
-ghost use Rattle.texml_expand.specs.Held.{state_of, Sound, Kept, Owns, SameFiles, Puts};
-ghost use Rattle.texml_assign.specs.Advance.{Advances};
+ghost use Rattle.texml_expand.specs.Held.{state_of, Sound, Kept, Owns, SameFiles, Puts, Progress};
 ghost use Rattle.texml_assign.specs.Doing.{Does};
 ghost use Rattle.texml_assign.specs.ConditionalNames.{IsName, AreNames};
 ghost use Rattle.texml_assign.specs.NewIf.{behind_if as spec_behind_if, part_in as spec_part_in, needed_part as spec_needed_part, let_name as spec_let_name, define_name as spec_define_name, conditional as spec_conditional, new_if_of as spec_new_if_of, new_if as spec_new_if};
@@ -79,7 +78,7 @@ fn new_if_of(alloc: Global, engine: &mut Engine, token: Token) -> Result<(), Sto
     ensures makes { Local (spec_new_if_of (token_at engine.old.names token)) result engine.old engine.new }
     ensures kept { engine.new.stop ≡ stop_after result }
     ensures keeps { OnOk result (Kept engine.old engine.new) }
-    ensures advances { Advances engine.old engine.new }
+    ensures advances { Progress engine.old engine.new }
     ensures files { SameFiles engine.old engine.new }
     ensures puts { OnOk result (Puts 0 engine.old engine.new) }
 {
@@ -140,7 +139,7 @@ fn conditional(alloc: Global, engine: &mut Engine, part: &Line) -> Result<(), St
     ensures makes { Local (spec_conditional part.now) result engine.old engine.new }
     ensures kept { engine.new.stop ≡ stop_after result }
     ensures keeps { OnOk result (Kept engine.old engine.new) }
-    ensures advances { Advances engine.old engine.new }
+    ensures advances { Progress engine.old engine.new }
     ensures files { SameFiles engine.old engine.new }
     ensures puts { OnOk result (Puts 0 engine.old engine.new) }
 {
@@ -162,7 +161,7 @@ fn give_names(alloc: Global, engine: &mut Engine, part: &Line) -> Result<Conditi
     ensures memory { IfErr result (λ stop. stop ≡ Stop.NoMemory) }
     ensures kept { engine.new.stop ≡ stop_after result }
     ensures keeps { OnOk result (Kept engine.old engine.new) }
-    ensures advances { Advances engine.old engine.new }
+    ensures advances { Progress engine.old engine.new }
     ensures files { SameFiles engine.old engine.new }
     ensures puts { OnOk result (Puts 0 engine.old engine.new) }
 {
@@ -229,7 +228,7 @@ fn let_name(engine: &mut Engine, name: Name, other: Name) -> Result<(), Stop>
     ensures lets { Local (change (spec_let_name (name_text engine.old.names name) (name_text engine.old.names other))) result engine.old engine.new }
     ensures kept { engine.new.stop ≡ stop_after result }
     ensures keeps { OnOk result (Kept engine.old engine.new) }
-    ensures advances { Advances engine.old engine.new }
+    ensures advances { Progress engine.old engine.new }
     ensures files { SameFiles engine.old engine.new }
     ensures puts { OnOk result (Puts 0 engine.old engine.new) }
 {
@@ -249,7 +248,7 @@ fn define_name(alloc: Global, engine: &mut Engine, name: Name, body: &[Name]) ->
     ensures defines { Local (change (spec_define_name (name_text engine.old.names name) (map (name_text engine.old.names) body.now))) result engine.old engine.new }
     ensures kept { engine.new.stop ≡ stop_after result }
     ensures keeps { OnOk result (Kept engine.old engine.new) }
-    ensures advances { Advances engine.old engine.new }
+    ensures advances { Progress engine.old engine.new }
     ensures files { SameFiles engine.old engine.new }
     ensures puts { OnOk result (Puts 0 engine.old engine.new) }
 {

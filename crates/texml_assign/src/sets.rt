@@ -1,18 +1,17 @@
 //! What commands change.
 
-ghost use Rattle.std.specs.Prelude.{◌≡◌, length, false, None, Some, IfErr, OnOk, OnErr};
+ghost use Rattle.std.specs.Prelude.{◌≡◌, ◌≤◌, ◌+◌, length, false, None, Some, IfErr, OnOk, OnErr};
 ghost use Rattle.texml_base.specs.Rising.{add_up};
 ghost use Rattle.texml_token.specs.Numbers.{token_at, TokenWithin};
 ghost use Rattle.texml_scope.specs.Groups.{begin_group as spec_begin_group, keep_after};
 ghost use Rattle.texml_scope.specs.World.{MaySet};
-ghost use Rattle.texml_scope.specs.Shown.{world_of};
+ghost use Rattle.texml_scope.specs.Shown.{world_of, saves, first_of, RoseByChanges};
 ghost use Rattle.texml_scope.specs.declared.values.ValueOf.TheVariants.{Means};
 ghost use Rattle.texml_scope.specs.Numbers.{key_at, meaning_at, value_at, kind_at, KeyWithin, KindWithin, MeaningWithin, ValueWithin};
 ghost use Rattle.texml_expand.specs.State.{change};
 ghost use Rattle.texml_expand.specs.Expand.{back};
 ghost use Rattle.texml_expand.specs.Contract.{stop_after, Local};
-ghost use Rattle.texml_expand.specs.Held.{Sound, Kept, SameFiles, Puts};
-ghost use Rattle.texml_assign.specs.Advance.{Advances};
+ghost use Rattle.texml_expand.specs.Held.{Sound, Kept, SameFiles, Puts, Progress};
 ghost use Rattle.texml_assign.specs.Sets.{set as spec_set, assign as spec_assign, begin_kind, end_kind, end_code as spec_end_code, read_after as spec_read_after, put_kept as spec_put_kept};
 ghost use Rattle.texml_assign.specs.Setting.{set_by};
 
@@ -37,7 +36,7 @@ pub fn assign(engine: &mut Engine, global: bool, key: Key, meaning: Meaning) -> 
     ensures sets { Local (change (spec_assign global (key_at engine.old.names key) (meaning_at engine.old.names meaning))) result engine.old engine.new }
     ensures kept { engine.new.stop ≡ stop_after result }
     ensures keeps { OnOk result (Kept engine.old engine.new) }
-    ensures advances { Advances engine.old engine.new }
+    ensures advances { Progress engine.old engine.new }
     ensures step { OnOk result (engine.new.writes ≡ add_up engine.old.writes 1) }
     ensures no_step { OnErr result (engine.new.writes ≡ engine.old.writes) }
     ensures files { SameFiles engine.old engine.new }
@@ -60,7 +59,7 @@ pub fn set(engine: &mut Engine, global: bool, key: Key, value: Value) -> Result<
     ensures sets { Local (change (spec_set global (key_at engine.old.names key) (value_at engine.old.names value))) result engine.old engine.new }
     ensures kept { engine.new.stop ≡ stop_after result }
     ensures keeps { OnOk result (Kept engine.old engine.new) }
-    ensures advances { Advances engine.old engine.new }
+    ensures advances { Progress engine.old engine.new }
     ensures step { OnOk result (engine.new.writes ≡ add_up engine.old.writes 1) }
     ensures no_step { OnErr result (engine.new.writes ≡ engine.old.writes) }
     ensures files { SameFiles engine.old engine.new }
@@ -107,7 +106,8 @@ pub fn begin_group(engine: &mut Engine, kind: GroupKind) -> Result<(), Stop>
     ensures begins { Local (begin_kind (kind_at engine.old.names kind)) result engine.old engine.new }
     ensures kept { engine.new.stop ≡ stop_after result }
     ensures keeps { OnOk result (Kept engine.old engine.new) }
-    ensures advances { Advances engine.old engine.new }
+    ensures advances { Progress engine.old engine.new }
+    ensures no_step { engine.new.writes ≡ engine.old.writes }
     ensures files { SameFiles engine.old engine.new }
     ensures puts { OnOk result (Puts 0 engine.old engine.new) }
 {
@@ -131,7 +131,9 @@ pub fn end_group(engine: &mut Engine, kind: GroupKind) -> Result<(), Stop>
     ensures ends { Local (end_kind (kind_at engine.old.names kind)) result engine.old engine.new }
     ensures kept { engine.new.stop ≡ stop_after result }
     ensures keeps { OnOk result (Kept engine.old engine.new) }
-    ensures advances { Advances engine.old engine.new }
+    ensures advances { Progress engine.old engine.new }
+    ensures few { engine.new.writes ≤ engine.old.writes + first_of (saves engine.old.scope) }
+    ensures many { RoseByChanges (world_of engine.old.scope) (world_of engine.new.scope) engine.old.writes engine.new.writes }
     ensures files { SameFiles engine.old engine.new }
     ensures puts { OnOk result (Puts 0 engine.old engine.new) }
 {
@@ -166,7 +168,8 @@ pub fn read_after(engine: &mut Engine, token: Token) -> Result<(), Stop>
     ensures keeps_token { Local (change (spec_read_after (token_at engine.old.names token))) result engine.old engine.new }
     ensures kept { engine.new.stop ≡ stop_after result }
     ensures keeps { OnOk result (Kept engine.old engine.new) }
-    ensures advances { Advances engine.old engine.new }
+    ensures advances { Progress engine.old engine.new }
+    ensures no_step { engine.new.writes ≡ engine.old.writes }
     ensures files { SameFiles engine.old engine.new }
     ensures puts { OnOk result (Puts 1 engine.old engine.new) }
 {
@@ -188,7 +191,8 @@ pub fn put_back(engine: &mut Engine, token: Token) -> Result<(), Stop>
     ensures changes { Local (change (back (token_at engine.old.names token) false)) result engine.old engine.new }
     ensures kept { engine.new.stop ≡ stop_after result }
     ensures keeps { OnOk result (Kept engine.old engine.new) }
-    ensures advances { Advances engine.old engine.new }
+    ensures advances { Progress engine.old engine.new }
+    ensures no_step { engine.new.writes ≡ engine.old.writes }
     ensures files { SameFiles engine.old engine.new }
     ensures puts { OnOk result (Puts 1 engine.old engine.new) }
 {
@@ -206,7 +210,8 @@ pub fn put_kept(engine: &mut Engine) -> Result<(), Stop>
     ensures changes { Local (change spec_put_kept) result engine.old engine.new }
     ensures kept { engine.new.stop ≡ stop_after result }
     ensures keeps { OnOk result (Kept engine.old engine.new) }
-    ensures advances { Advances engine.old engine.new }
+    ensures advances { Progress engine.old engine.new }
+    ensures no_step { engine.new.writes ≡ engine.old.writes }
     ensures files { SameFiles engine.old engine.new }
     ensures puts { OnOk result (Puts 0 engine.old engine.new) }
 {

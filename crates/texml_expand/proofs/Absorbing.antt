@@ -36,7 +36,7 @@ set_kept : (b : Bool) (h : Held) → Sound h → Kept h (record h { absorbing = 
 set_kept b h s = record { grows = extends_refl h.names; sound = set_sound b h s }
 
 set_progress : (b : Bool) (h : Held) → Progress h (record h { absorbing = b })
-set_progress b h = record { names = extends_refl h.names; begun = omega arith; limit = refl; writes = omega arith }
+set_progress b h = record { names = extends_refl h.names; begun = omega arith; within = λ b. b; limit = refl; writes = omega arith }
 
 pub set_owns : (b : Bool) (shelf : Shelf) (h : Held) → Owns shelf h → Owns shelf (record h { absorbing = b })
 set_owns b shelf h o = record { held = o.held; all = o.all }

@@ -120,4 +120,4 @@ module _ {T : Type 0} (hear part : T → Record → T → Type 0) where
   pub up_does : (list : List Token) (h : Held) (f : Outside) (a : T) → IsAtFence h.input.sources → Sound h → h.stop ≡ None → Owns f.shelf h → Does hear part (λ n. up_with list) (Ok list) h (with_sources (unfenced h.input.sources) h) f f a a
   up_does list h f a at sound running owns =
       does_silent hear part (λ c. up_with list) (lawful_up_with list) (Ok list) h (with_sources (unfenced h.input.sources) h) f a (ap (λ s. Done list s nothing) (sym (unfenced_state f.shelf h h.input.sources at))) running tt
-      (unfenced_kept h at sound) (record { names = extends_refl h.names; begun = omega arith; limit = refl; writes = omega arith }) (record { ids = unfenced_ids h.input.sources at; readers = unfenced_readers h.input.sources at }) owns
+      (unfenced_kept h at sound) (record { names = extends_refl h.names; begun = omega arith; within = λ b. b; limit = refl; writes = omega arith }) (record { ids = unfenced_ids h.input.sources at; readers = unfenced_readers h.input.sources at }) owns

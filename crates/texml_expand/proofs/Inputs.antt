@@ -81,7 +81,7 @@ module _ (h : Held) (names : Table) (input : HeldInput) (a b : Shelf) (reads rea
       })
 
   mid_progress : Progress h mid
-  mid_progress = record { names = grows; begun = omega arith; limit = refl; writes = omega arith }
+  mid_progress = record { names = grows; begun = omega arith; within = λ b. b; limit = refl; writes = omega arith }
 
   -- it stops there
   stopped : {A : Type 0} (e : Stop) (new : Held) → new ≡ record mid { stop = Some e } → ReadsBecause {A = A} (Err e) reads reads' → TellsBecause {A = A} (Err e) 0 0 → IsAtLimit {A = A} (Err e) new

@@ -111,7 +111,7 @@ module _ (before now : Shelf) (h : Held) (there : List ℕ) (id : ℕ) (owns : O
   }
 
   progress_opened : Progress h with_text
-  progress_opened = record { names = extends_refl h.names; begun = omega arith; limit = refl; writes = omega arith }
+  progress_opened = record { names = extends_refl h.names; begun = omega arith; within = λ b. b; limit = refl; writes = omega arith }
 
   pub passes_opened : {A : Type 0} (r : Result A Stop) (new : Held) → OnOk r (new ≡ with_text) → OnOk r (Passes 1 h new)
   passes_opened (Ok v) new e = subst (Passes 1 h) (sym e) (record { limit = refl; nesting = refl; begun = omega arith; within = λ lt. absurd (omega (arith, lt)) })

@@ -47,7 +47,7 @@ rebound_to limits h f running sound owns = record {
   kept = kept_limits limits h sound;
   owns = record { held = owns.held; all = owns.all };
   runs =
-      runs_local (Ok tt) h (with_limits limits h) f running tt tt (kept_limits limits h sound) (record { names = extends_refl h.names; begun = omega arith; limit = refl; writes = omega arith }) (record { ids = refl; readers = refl }) owns;
+      runs_local (Ok tt) h (with_limits limits h) f running tt tt (kept_limits limits h sound) (record { names = extends_refl h.names; begun = omega arith; within = λ b. b; limit = refl; writes = omega arith }) (record { ids = refl; readers = refl }) owns;
   lower = record { limit = refl; nesting = refl; begun = omega arith; room = λ _. omega arith; within = λ lt. absurd (omega (arith, lt)) };
 }
 

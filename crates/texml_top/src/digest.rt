@@ -6,8 +6,7 @@ ghost use Rattle.texml_scope.specs.Numbers.{meaning_at, MeaningWithin};
 ghost use Rattle.texml_expand.specs.State.{give};
 ghost use Rattle.texml_expand.specs.Contract.{Local, outside, stop_after};
 ghost use Rattle.texml_expand.specs.Hearing.{hears, hears_part};
-ghost use Rattle.texml_expand.specs.Held.{Sound, Kept, ok_at, Owns, SameFiles, Puts};
-ghost use Rattle.texml_assign.specs.Advance.{Advances};
+ghost use Rattle.texml_expand.specs.Held.{Sound, Kept, ok_at, Owns, SameFiles, Puts, Progress};
 ghost use Rattle.texml_assign.specs.Doing.{Does};
 ghost use Rattle.texml_assign.specs.Loop.{On, loops};
 ghost use Rattle.texml_assign.specs.declared.executing.Executed.TheVariants.{NotMine};
@@ -86,7 +85,7 @@ fn end_of<'c, 'a>(
     ensures gives { Local (give (all_of seen.entry)) result engine.old engine.new }
     ensures kept { engine.new.stop ≡ stop_after result }
     ensures keeps { OnOk result (Kept engine.old engine.new) }
-    ensures advances { Advances engine.old engine.new }
+    ensures advances { Progress engine.old engine.new }
     ensures files { SameFiles engine.old engine.new }
     ensures puts { OnOk result (Puts 0 engine.old engine.new) }
 {
@@ -201,7 +200,7 @@ fn digest_char(engine: &mut Engine, code: u32, category: u8) -> Result<Piece, St
     ensures digests { Local (spec_digest_char code category) (ok_at ops_of result) engine.old engine.new }
     ensures kept { engine.new.stop ≡ stop_after result }
     ensures keeps { OnOk result (Kept engine.old engine.new) }
-    ensures advances { Advances engine.old engine.new }
+    ensures advances { Progress engine.old engine.new }
     ensures files { SameFiles engine.old engine.new }
     ensures puts { OnOk result (Puts 0 engine.old engine.new) }
 {

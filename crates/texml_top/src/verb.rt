@@ -1,13 +1,13 @@
 //! Reads characters as they stand: the text of `\verb`.
 
-ghost use Rattle.std.specs.Prelude.{◌≡◌, [], ◌∷◌, ◌++◌, length, None, IfOk, OnOk};
+ghost use Rattle.std.specs.Prelude.{◌≡◌, [], ◌∷◌, ◌++◌, length, None, IfOk, OnOk, OnErr};
 ghost use Rattle.std.specs.Char.{IsScalar, encode_utf8};
+ghost use Rattle.texml_base.specs.Rising.{add_up};
 ghost use Rattle.texml_token.specs.Numbers.{token_at, TokenWithin};
 ghost use Rattle.texml_expand.specs.State.{change};
 ghost use Rattle.texml_expand.specs.Contract.{Local, outside, stop_after};
 ghost use Rattle.texml_expand.specs.Hearing.{hears, hears_part};
-ghost use Rattle.texml_expand.specs.Held.{Sound, Kept, Owns, SameFiles, Puts};
-ghost use Rattle.texml_assign.specs.Advance.{Advances};
+ghost use Rattle.texml_expand.specs.Held.{Sound, Kept, Owns, SameFiles, Puts, Progress};
 ghost use Rattle.texml_assign.specs.Doing.{Does};
 ghost use Rattle.texml_top.specs.Verb.{all_other, char_of as spec_char_of, next_char as spec_next_char, delimiter as spec_delimiter, text_to as spec_text_to, verb_text as spec_verb_text, begin_verb as spec_begin_verb, end_verb as spec_end_verb, verb as spec_verb};
 
@@ -56,7 +56,7 @@ fn begin_verb(engine: &mut Engine) -> Result<(), Stop>
     ensures begins { Local spec_begin_verb result engine.old engine.new }
     ensures kept { engine.new.stop ≡ stop_after result }
     ensures keeps { OnOk result (Kept engine.old engine.new) }
-    ensures advances { Advances engine.old engine.new }
+    ensures advances { Progress engine.old engine.new }
     ensures files { SameFiles engine.old engine.new }
     ensures puts { OnOk result (Puts 0 engine.old engine.new) }
 {
@@ -71,7 +71,7 @@ fn end_verb(engine: &mut Engine, text: Bytes) -> Result<Bytes, Stop>
     ensures ends { Local (spec_end_verb text) result engine.old engine.new }
     ensures kept { engine.new.stop ≡ stop_after result }
     ensures keeps { OnOk result (Kept engine.old engine.new) }
-    ensures advances { Advances engine.old engine.new }
+    ensures advances { Progress engine.old engine.new }
     ensures files { SameFiles engine.old engine.new }
     ensures puts { OnOk result (Puts 0 engine.old engine.new) }
 {
@@ -86,7 +86,8 @@ fn make_others(engine: &mut Engine, characters: &[char]) -> Result<(), Stop>
     ensures sets { Local (change (all_other characters.now)) result engine.old engine.new }
     ensures kept { engine.new.stop ≡ stop_after result }
     ensures keeps { OnOk result (Kept engine.old engine.new) }
-    ensures advances { Advances engine.old engine.new }
+    ensures advances { Progress engine.old engine.new }
+    ensures step { OnOk result (engine.new.writes ≡ add_up engine.old.writes (length characters.now)) }
     ensures files { SameFiles engine.old engine.new }
     ensures puts { OnOk result (Puts 0 engine.old engine.new) }
 {
@@ -103,7 +104,9 @@ fn make_other(engine: &mut Engine, character: char) -> Result<(), Stop>
     ensures sets { Local (change (all_other (character ∷ []))) result engine.old engine.new }
     ensures kept { engine.new.stop ≡ stop_after result }
     ensures keeps { OnOk result (Kept engine.old engine.new) }
-    ensures advances { Advances engine.old engine.new }
+    ensures advances { Progress engine.old engine.new }
+    ensures step { OnOk result (engine.new.writes ≡ add_up engine.old.writes 1) }
+    ensures no_step { OnErr result (engine.new.writes ≡ engine.old.writes) }
     ensures files { SameFiles engine.old engine.new }
     ensures puts { OnOk result (Puts 0 engine.old engine.new) }
 {

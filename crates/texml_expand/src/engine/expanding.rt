@@ -331,7 +331,7 @@ impl Engine {
         self.end(tell, token, gift)
     }
 
-    // Begins an expansion.
+    // Begins an expansion. Where the limit is reached and too many are open within each other, the limit counts.
     pub(super) fn begin(&mut self) -> Result<(), Stop>
         requires { self.old.stop ≡ None }
         ensures begins { Local begin result self.old self.new }
@@ -343,13 +343,13 @@ impl Engine {
         ensures limit { IsAtLimit result self.new }
         ensures files { SameFiles self.old self.new }
     {
+        if self.nesting >= DEEPEST && !self.budget.is_spent() {
+            return Err(self.bare_fault(fault_code::DEPTH));
+        }
         if !self.budget.begin() {
             let limit = self.budget.begun();
             self.stop_with(Stop::Limit(limit));
             return Err(Stop::Limit(limit));
-        }
-        if self.nesting >= DEEPEST {
-            return Err(self.bare_fault(fault_code::DEPTH));
         }
         self.nesting += 1;
         Ok(())

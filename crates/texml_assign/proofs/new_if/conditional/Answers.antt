@@ -4,15 +4,16 @@ use Rattle.texml_expand.specs.Contract.{Local}
 use Rattle.texml_expand.specs.Held.{state_of}
 use Rattle.texml_expand.proofs.Fronts.{kept_then, ok_kept}
 use Rattle.texml_assign.specs.NewIf.{let_name, set_to}
-use Rattle.texml_assign.proofs.Doing.{advances_then, local_then}
+use Rattle.texml_expand.proofs.Progress.{progress_then}
+use Rattle.texml_assign.proofs.Doing.{local_then}
 use Rattle.texml_assign.proofs.NewConditionals.{names_stay, let_named, true_named, false_named}
 use Rattle.texml_assign.proofs.new_if.conditional.Goals as goal
 
 pub returns-in_err-let_name-clause-advances : goal.returns-in_err-let_name-clause-advances
-returns-in_err-let_name-clause-advances c = advances_then _ _ _ c.in_ok-names.ensures.advances c.in_err-let_name.ensures.advances
+returns-in_err-let_name-clause-advances c = progress_then _ _ _ c.in_ok-names.ensures.advances c.in_err-let_name.ensures.advances
 
 pub returns-in_err-define_name-clause-advances : goal.returns-in_err-define_name-clause-advances
-returns-in_err-define_name-clause-advances c = advances_then _ _ _ (advances_then _ _ _ c.in_ok-names.ensures.advances c.in_ok-let_name.ensures.advances) c.in_err-define_name.ensures.advances
+returns-in_err-define_name-clause-advances c = progress_then _ _ _ (progress_then _ _ _ c.in_ok-names.ensures.advances c.in_ok-let_name.ensures.advances) c.in_err-define_name.ensures.advances
 
 pub returns-clause-keeps : goal.returns-clause-keeps
 returns-clause-keeps c =
@@ -20,7 +21,7 @@ returns-clause-keeps c =
 
 pub returns-clause-advances : goal.returns-clause-advances
 returns-clause-advances c =
-    advances_then _ _ _ (advances_then _ _ _ (advances_then _ _ _ c.in_ok-names.ensures.advances c.in_ok-let_name.ensures.advances) c.in_ok-define_name.ensures.advances) c.define_name-2.ensures.advances
+    progress_then _ _ _ (progress_then _ _ _ (progress_then _ _ _ c.in_ok-names.ensures.advances c.in_ok-let_name.ensures.advances) c.in_ok-define_name.ensures.advances) c.define_name-2.ensures.advances
 
 pub returns-clause-makes : goal.returns-clause-makes
 returns-clause-makes c =

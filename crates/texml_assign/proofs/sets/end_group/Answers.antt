@@ -8,8 +8,9 @@ use Rattle.texml_scope.specs.Shown.{Shown, world_of}
 use Rattle.texml_expand.specs.Held.{Held}
 use Rattle.texml_expand.proofs.Fronts.{kept_then}
 use Rattle.texml_expand.proofs.Running.{files_stopped}
-use Rattle.texml_assign.proofs.Doing.{advances_then, files_then}
-use Rattle.texml_assign.proofs.Worlds.{scope_kept, end_puts, end_stops, end_keeps, puts_ended, files_wrote, advances_wrote, advances_stops, advances_put}
+use Rattle.texml_expand.proofs.Progress.{progress_then}
+use Rattle.texml_assign.proofs.Doing.{files_then}
+use Rattle.texml_assign.proofs.Worlds.{scope_kept, end_puts, end_stops, end_keeps, puts_ended, files_wrote, advances_wrote, advances_stops, advances_put, put_writes, end_few, end_many}
 use Rattle.texml_assign.proofs.sets.end_group.Goals as goal
 
 pub put-requires-clause-sound : goal.put-requires-clause-sound
@@ -40,7 +41,7 @@ returns-in-Ok-clause-keeps c =
 pub returns-in-Ok-clause-advances : goal.returns-in-Ok-clause-advances
 returns-in-Ok-clause-advances c =
     let h = c.args.engine.now in let running = ap (λ (h : Held). h.stop) c.wrote.ensures ∙ c.requires.running in
-    advances_then h c.wrote.new.self c.put.new.self (advances_wrote h c.wrote.new.self c.end-ended.new.self _ c.wrote.ensures) (advances_put c.wrote.new.self c.put.new.self (put (tokens_at c.wrote.new.self.names c.in-Ok.after)) c.put.result (c.put.ensures.put running) (c.put.ensures.rest running))
+    progress_then h c.wrote.new.self c.put.new.self (advances_wrote h c.wrote.new.self c.end-ended.new.self _ c.wrote.ensures) (advances_put c.wrote.new.self c.put.new.self (put (tokens_at c.wrote.new.self.names c.in-Ok.after)) c.put.result (c.put.ensures.put running) (c.put.ensures.rest running))
 
 pub returns-in-Ok-clause-files : goal.returns-in-Ok-clause-files
 returns-in-Ok-clause-files c = files_then (files_wrote c.args.engine.now c.wrote.new.self c.end-ended.new.self _ c.wrote.ensures) c.put.ensures.files
@@ -61,3 +62,24 @@ returns-in-Err-clause-advances c = advances_stops c.args.engine.now c.wrote.new.
 
 pub returns-in-Err-clause-files : goal.returns-in-Err-clause-files
 returns-in-Err-clause-files c = files_then (files_wrote c.args.engine.now c.wrote.new.self c.end-ended.new.self _ c.wrote.ensures) (files_stopped c.wrote.new.self c.bare_fault.new.self _ c.bare_fault.ensures.kept)
+
+pub returns-in-Ok-clause-few : goal.returns-in-Ok-clause-few
+returns-in-Ok-clause-few c =
+    let running = ap (λ (h : Held). h.stop) c.wrote.ensures ∙ c.requires.running in
+    let w = put_writes c.wrote.new.self c.put.new.self (put (tokens_at c.wrote.new.self.names c.in-Ok.after)) c.put.result (c.put.ensures.put running) (c.put.ensures.rest running) in
+    end_few c.args.engine.now c.wrote.new.self c.put.new.self c.end-ended.new.self _ _ c.wrote.ensures w.0 (rw c.scope.ensures.value at c.in-Ok.ensures.few)
+
+pub returns-in-Ok-clause-many : goal.returns-in-Ok-clause-many
+returns-in-Ok-clause-many c =
+    let running = ap (λ (h : Held). h.stop) c.wrote.ensures ∙ c.requires.running in
+    let w = put_writes c.wrote.new.self c.put.new.self (put (tokens_at c.wrote.new.self.names c.in-Ok.after)) c.put.result (c.put.ensures.put running) (c.put.ensures.rest running) in
+    end_many c.args.engine.now c.wrote.new.self c.put.new.self c.end-ended.new.self _ c.wrote.ensures w (rw c.scope.ensures.value at c.in-Ok.ensures.many)
+
+pub returns-in-Err-clause-few : goal.returns-in-Err-clause-few
+returns-in-Err-clause-few c =
+    end_few c.args.engine.now c.wrote.new.self c.bare_fault.new.self c.end-ended.new.self _ _ c.wrote.ensures (ap (λ (h : Held). h.writes) c.bare_fault.ensures.kept) (rw c.scope.ensures.value at c.in-Err.ensures.few)
+
+pub returns-in-Err-clause-many : goal.returns-in-Err-clause-many
+returns-in-Err-clause-many c =
+    let kept = c.bare_fault.ensures.kept in
+    end_many c.args.engine.now c.wrote.new.self c.bare_fault.new.self c.end-ended.new.self _ c.wrote.ensures (ap (λ (h : Held). h.writes) kept, ap (λ (h : Held). h.scope) kept) (rw c.scope.ensures.value at c.in-Err.ensures.many)

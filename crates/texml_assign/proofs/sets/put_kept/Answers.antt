@@ -5,7 +5,8 @@ use Rattle.texml_expand.specs.Expand.{back}
 use Rattle.texml_expand.specs.Held.{Held}
 use Rattle.texml_expand.proofs.Fronts.{kept_then}
 use Rattle.texml_assign.proofs.Worlds.{kept_none, kept_some, kept_gone, kept_within, advances_put, advances_set, files_set, puts_kept, gone_kept}
-use Rattle.texml_assign.proofs.Doing.{advances_then, files_then}
+use Rattle.texml_expand.proofs.Progress.{progress_then}
+use Rattle.texml_assign.proofs.Doing.{files_then}
 use Rattle.texml_assign.proofs.sets.put_kept.Goals as goal
 
 pub returns-in-None-clause-changes : goal.returns-in-None-clause-changes
@@ -31,7 +32,7 @@ returns-in-Some-clause-keeps c =
 pub returns-in-Some-clause-advances : goal.returns-in-Some-clause-advances
 returns-in-Some-clause-advances c =
     let running = ap (λ (h : Held). h.stop) c.keep.ensures ∙ c.requires.running in
-    advances_then c.args.engine.now c.keep.new.self c.back.new.self (advances_set c.args.engine.now c.keep.new.self None c.keep.ensures)
+    progress_then c.args.engine.now c.keep.new.self c.back.new.self (advances_set c.args.engine.now c.keep.new.self None c.keep.ensures)
     (advances_put c.keep.new.self c.back.new.self (back (token_at c.keep.new.self.names c.in-Some.token) false) c.back.result (c.back.ensures.back running) (c.back.ensures.rest running))
 
 pub returns-in-Some-clause-files : goal.returns-in-Some-clause-files
