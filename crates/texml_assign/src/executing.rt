@@ -59,11 +59,13 @@ enum Behind {
 ///
 /// # Errors
 ///
-/// `Tex` with the faults of the command: fault 4 at the end of what is to be read, fault 21 where a prefix stands before
-/// something else than an assignment, fault 18 where a name is missing, faults 14 and 22 in a definition, faults 16 and 17
-/// where no group of the kind can end, of a new command faults 1, 2, 14 and 23, and those of `Engine::fetch` behind a prefix.
-/// `Limit` where one expansion too many would begin there. `TellFailed` only where the count of faults of `tell` rose in this
-/// call, `NoMemory` where memory was refused; the records told until then are the first of those that would be told. And the
+/// `Tex` with the faults of the command: fault 4 at the end of what is to be read, and where a file ends inside a definition; fault 21
+/// where a prefix stands before something else than an assignment; fault 18 where a name is missing, and 22 where a list in braces is;
+/// fault 14 at a bad parameter; faults 16 and 17 where no group of the kind can end; fault 11 at a register, a code or a character that
+/// isn't there; faults 6 to 9 of numbers and dimensions, and 10 where a sum, a product or a quotient is too large; fault 23 where a new
+/// command is taken; and the faults of `Engine::fetch` where it expands: 1 to 6, 11 to 13, 15, 19, 20 and 25.
+/// `Limit` where one expansion too many would begin. `ReadFailed` and `TellFailed` only where the count of faults of `files` or `tell` rose
+/// in this call, `NoMemory` where memory was refused; the records told until then are the first of those that would be told. And the
 /// stop that is kept.
 #[inline(always)]
 pub fn execute<F: Files, T: Teller>(

@@ -1,5 +1,5 @@
 //! Counters: an allowance that is used up, and steps that are taken.
-ghost use Rattle.std.specs.Prelude.{◌≡◌, ◌≤◌, ◌+◌, nat_eq};
+ghost use Rattle.std.specs.Prelude.{◌≡◌, ◌≤◌, ◌+◌, nat_le};
 ghost use Rattle.texml_base.specs.Counters.{BeginsOne};
 ghost use Rattle.texml_base.specs.Rising.{add_up};
 
@@ -44,9 +44,9 @@ impl Budget {
 
     /// Whether as many were begun as may be.
     pub fn is_spent(&self) -> bool
-        ensures { result ≡ nat_eq self.now.begun self.now.limit }
+        ensures { result ≡ nat_le self.now.limit self.now.begun }
     {
-        self.begun == self.limit
+        self.begun >= self.limit
     }
 
     /// How many were begun.

@@ -1,15 +1,16 @@
 //! A tree that grows, one operation after the other.
 
-ghost use Rattle.std.specs.Prelude.{◌≡◌, List, [], ◌∷◌, ◌++◌, IfOk, OnOk, OnErr};
+ghost use Rattle.std.specs.Prelude.{◌≡◌, List, [], ◌∷◌, ◌++◌, Err, IfOk, OnOk, OnErr, IsErr, IsTrue};
 ghost use Rattle.std.specs.Borrow.{ftrue};
 ghost use Rattle.texml_tree.specs.declared.ops.Op.{Op};
 ghost use Rattle.texml_tree.specs.Plain.{tree_of};
 ghost use Rattle.texml_model.specs.Rules.{IsContentModel, rules_of};
+ghost use Rattle.texml_build.specs.declared.fault.BuildFault.TheVariants.{NoMemory};
 ghost use Rattle.texml_build.specs.Brackets.{steps};
 ghost use Rattle.texml_build.specs.Matched.{built};
 ghost use Rattle.texml_build.specs.Held.{fresh, held_of, Follows, Does};
 ghost use Rattle.texml_build.specs.Answer.{Builds};
-ghost use Rattle.texml_build.specs.Growing.{Growing, with_op};
+ghost use Rattle.texml_build.specs.Growing.{Growing, no_ops, with_op, stopped_now};
 ghost use Rattle.texml_build.specs.Valid.{Valid};
 
 use crate::builder::Builder;
@@ -60,11 +61,11 @@ impl<'c, 'a> Model for GrowingTree<'c, 'a> {
     ghost use Rattle.texml_model.specs.Rules.{rules_of};
     ghost use Rattle.texml_build.specs.Brackets.{steps};
     ghost use Rattle.texml_build.specs.Held.{fresh, held_of, Does};
-    ghost use Rattle.texml_build.specs.Growing.{Growing};
+    ghost use Rattle.texml_build.specs.Growing.{Growing, lacks_memory};
 
     ghost Value = { Growing };
 
-    ghost view = { λ g. record { table = g.content.now; ops = g.done.ops } };
+    ghost view = { λ g. record { table = g.content.now; ops = g.done.ops; stopped = lacks_memory g.state } };
 
     ghost invariant = { λ g. Does (rules_of g.content.now) (steps (rules_of g.content.now) g.done.ops) (fresh (rules_of g.content.now)) (held_of g.builder) g.state };
 }
@@ -72,7 +73,7 @@ impl<'c, 'a> Model for GrowingTree<'c, 'a> {
 impl<'c, 'a> GrowingTree<'c, 'a> {
     /// The tree of no operations, by this table. It takes no memory.
     pub fn new(alloc: Global, arena: &'a Bump, content: &'c Content) -> GrowingTree<'c, 'a>
-        ensures { result ≡ record { table = content.now; ops = [] } }
+        ensures { result ≡ no_ops content.now }
     {
         GrowingTree {
             content,
@@ -89,7 +90,8 @@ impl<'c, 'a> GrowingTree<'c, 'a> {
     /// `AllocError` where there is no memory, and from then on. The operations are then as before.
     pub fn add(&mut self, op: &Op) -> Result<(), AllocError>
         ensures ok { OnOk result (self.new ≡ with_op self.old op.now) }
-        ensures err { OnErr result (self.new ≡ self.old) }
+        ensures err { OnErr result (self.new ≡ stopped_now self.old) }
+        ensures stays { IsTrue self.old.stopped → IsErr result }
     {
         let state = mem::replace(&mut self.state, Ok(()));
         self.state = advance(self.content, &mut self.builder, state, op);
@@ -111,6 +113,7 @@ impl<'c, 'a> GrowingTree<'c, 'a> {
     pub fn finish(self) -> Result<Tree<'a>, BuildFault>
         ensures value { Builds (built (rules_of self.entry.table) self.entry.ops) result }
         ensures valid { IfOk result (λ tree. Valid (rules_of self.entry.table) (tree_of tree)) }
+        ensures stopped { IsTrue self.entry.stopped → result ≡ Err NoMemory }
     {
         let GrowingTree {
             content,
@@ -132,8 +135,9 @@ fn advance(
     state: Result<(), BuildFault>,
     op: &Op,
 ) -> Result<(), BuildFault>
-    ensures { (ops : List Op) → Does (rules_of content.now) (steps (rules_of content.now) ops) (fresh (rules_of content.now)) (held_of builder.old) state
+    ensures does { (ops : List Op) → Does (rules_of content.now) (steps (rules_of content.now) ops) (fresh (rules_of content.now)) (held_of builder.old) state
         → Does (rules_of content.now) (steps (rules_of content.now) (ops ++ op.now ∷ [])) (fresh (rules_of content.now)) (held_of builder.new) result }
+    ensures stays { OnErr state (result ≡ state) }
 {
     match state {
         Err(fault) => Err(fault),

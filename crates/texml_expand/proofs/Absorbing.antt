@@ -1,5 +1,5 @@
 -- The tokens of a group, expanded or as they stand.
-use Rattle.std.proofs.Common.{◌≡◌, ◌≤◌, ◌+◌, ℕ, Bool, true, false, List, [], None, Result, Ok, Err, refl, sym, subst, arith}
+use Rattle.std.proofs.Common.{◌≡◌, ℕ, Bool, true, false, List, [], None, Result, Ok, Err, refl, sym, subst, arith}
 use Rattle.texml_base.specs.Outside.{Shelf}
 use Rattle.texml_token.specs.Token.{Token}
 use Rattle.texml_watch.specs.declared.record.Record.{Record}
@@ -10,7 +10,7 @@ use Rattle.texml_expand.specs.State.{change, give}
 use Rattle.texml_expand.specs.Absorb.{absorbed, absorbs, absorb_expanded, absorb}
 use Rattle.texml_expand.specs.Expand.{level}
 use Rattle.texml_expand.specs.Contract.{Outside, outside, files_at}
-use Rattle.texml_expand.specs.Held.{Held, Sound, Kept, Progress, Owns, SameFiles, Shrinks}
+use Rattle.texml_expand.specs.Held.{Held, Sound, Kept, Progress, Owns, Shrinks}
 use Rattle.texml_expand.specs.Doing.{Does, Gets}
 use Rattle.texml_token.proofs.Table.{extends_refl}
 use Rattle.texml_expand.proofs.Lawful.{lawful_give, lawful_gather}

@@ -28,7 +28,7 @@ use Rattle.texml_expand.specs.Calls.{Puts}
 use Rattle.texml_expand.specs.Expansion.{puts}
 use Rattle.texml_expand.specs.Fronts.{MacroCode, macro_at}
 use Rattle.texml_expand.specs.Contract.{Outside}
-use Rattle.texml_expand.specs.Held.{Held, state_of}
+use Rattle.texml_expand.specs.Held.{Held}
 use Rattle.texml_expand.specs.Doing.{Gets}
 use Rattle.texml_expand.proofs.Least.{by_least_at}
 use Rattle.texml_expand.proofs.Getting.{gets_then, gets_stop, gets_now, gets_out}

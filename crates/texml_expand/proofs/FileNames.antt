@@ -1,5 +1,5 @@
 -- The name of a file, step by step.
-use Rattle.std.proofs.Common.{◌≡◌, ℕ, ◌+◌, ◌≤◌, length, List, [], ◌∷◌, Option, None, Some, Result, Ok, Err, refl, sym, ap, subst, Bool, arith}
+use Rattle.std.proofs.Common.{◌≡◌, ℕ, length, List, [], ◌∷◌, Option, None, Result, Ok, Err, refl, sym, ap, subst, Bool, arith}
 use Rattle.std.proofs.lemmas.List.Elements.{All-tail}
 use Rattle.texml_base.specs.Outside.{Shelf}
 use Rattle.texml_token.specs.Token.{Token}
@@ -8,7 +8,7 @@ use Rattle.texml_input.specs.Held.{Source, Plain, Marked, File, Fence, IsAtFence
 use Rattle.texml_watch.specs.declared.record.Record.{Record}
 use Rattle.texml_expand.specs.declared.stop.Stop.{Stop}
 use Rattle.texml_expand.specs.declared.gathering.Gathering.TheVariants.{FileName, All}
-use Rattle.texml_expand.specs.State.{State, Done, nothing, give}
+use Rattle.texml_expand.specs.State.{Done, nothing, give}
 use Rattle.texml_expand.specs.Include.{taken_up, argument_alone, all_left, bytes_of, characters, name_argument, plain_name, peeked, begins_group, name_by, file_name}
 use Rattle.texml_expand.specs.Expand.{level}
 use Rattle.texml_expand.specs.Contract.{Outside}

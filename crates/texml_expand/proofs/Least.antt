@@ -1,5 +1,5 @@
 -- Readings by the least number of next tokens: each decides, and leaves less to be read.
-use Rattle.std.proofs.Common.{◌≡◌, ◌+◌, ◌≤◌, ◌<◌, ℕ, zero, suc, Bool, true, false, ◌&&◌, List, [], ◌∷◌, ◌++◌, if◌then◌else◌, length, length-append, Option, Some, None, refl, sym, ap, ◌∙◌, subst, arith}
+use Rattle.std.proofs.Common.{◌≡◌, ◌≢◌, ◌+◌, ◌≤◌, ◌<◌, ℕ, zero, suc, Bool, true, false, ◌&&◌, List, [], ◌∷◌, ◌++◌, if◌then◌else◌, length, length-append, Option, Some, None, refl, sym, ap, ◌∙◌, subst, arith}
 use Rattle.texml_token.specs.Token.{Token}
 use Rattle.texml_expand.specs.declared.feeding.Verdict.{Verdict}
 use Rattle.texml_expand.specs.declared.feeding.Verdict.TheVariants.{TooShort, Yields, Refuses}
@@ -106,6 +106,13 @@ more_took k list s t h =
 pub next_took : (k : ℕ) (s : State) → Leads (λ list t. Took k s list t) (next_tokens k s)
 next_took zero s = record { takes = takes_none s; number = refl }
 next_took (suc k) s = leads_chain (λ list t. Took k s list t) (λ list t. Took (suc k) s list t) (next_tokens k s) one_more (next_took k s) (λ list t h. more_took k list s t h)
+
+-- no more tokens are next than there is room for
+few_at : (k : ℕ) (s : State) (a : Answer (List Token)) → room s < k → Leads (λ list t. Took k s list t) a → (list : List Token) (t : State) (gains : Gains) → a ≢ Done list t gains
+few_at k s a lt h list t gains e = let took : Took k s list t = subst (Leads (λ l u. Took k s l u)) e h in let le = takes_room k s t took.takes in absurd (omega arith)
+
+pub few_next : (s : State) (k : ℕ) → room s < k → (list : List Token) (t : State) (gains : Gains) → next_tokens k s ≢ Done list t gains
+few_next s k lt = few_at k s (next_tokens k s) lt (next_took k s)
 
 more_decided : (list : List Token) (t : State) → IsDecided (one_more list t)
 more_decided list t = chain_decided (λ y u. Unit {0}) (inner_token t) (λ y. give (list ++ y ∷ [])) (inner_decided t) (any (inner_token t)) (λ y u _. tt)

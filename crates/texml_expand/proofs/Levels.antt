@@ -1,6 +1,6 @@
 -- Fetching, expanding, looking at tokens and gathering them by depth: a deeper look answers the same, less is left to be read, and some depth decides.
 use Rattle.std.proofs.Common.{◌≡◌, ◌+◌, ◌-◌, ◌<◌, ◌≤◌, ℕ, zero, suc, Bool, true, false, nat_le, if◌then◌else◌, List, [], ◌∷◌, ◌++◌, length, length-append, map, Option, Some, None, refl, ap, ◌∙◌, arith, add-suc, add-zero, inl, inr, eq-or-lt_of_le}
-use Rattle.std.proofs.lemmas.Bool.{leb-false}
+use Rattle.std.proofs.lemmas.Bool.{leb-false, le-leb}
 use Rattle.std.specs.Fmt.{signed_decimal}
 use Rattle.texml_token.specs.Token.{Token, Char}
 use Rattle.texml_token.specs.declared.fault_code.TheConstants.{DEPTH}
@@ -73,6 +73,10 @@ begun_leads s false false e = (refl, leb-false s.limit s.begun e)
 
 pub begin_leads : (s : State) → Leads (Begun s) (begin s)
 begin_leads s = begun_leads s (nat_le s.limit s.begun) (nat_le 400 s.nesting) refl
+
+-- too many are open within each other
+pub begin_deep : (s : State) → nat_le s.limit s.begun ≡ false → 400 ≤ s.nesting → begin s ≡ Ended (Tex (fault_at DEPTH [] s.place)) nothing
+begin_deep s free deep = ap (λ b. begun_answer s b (nat_le 400 s.nesting)) free ∙ ap (λ c. begun_answer s false c) (le-leb 400 s.nesting deep)
 
 begun_decided : (s : State) (b c : Bool) → IsDecided (begun_answer s b c)
 begun_decided s true c = tt

@@ -1,5 +1,5 @@
 -- A reading by the least number of next tokens, of which the value alone is changed.
-use Rattle.std.proofs.Common.{◌≡◌, ◌+◌, ℕ, zero, suc, Bool, List, [], ◌∷◌, ◌++◌, append-nil, if◌then◌else◌, map, length, slice_index_or, Ok, Err, refl, sym, ap, ap₂, ◌∙◌, subst, arith}
+use Rattle.std.proofs.Common.{◌≡◌, ◌+◌, ℕ, zero, suc, Bool, List, [], ◌∷◌, if◌then◌else◌, map, length, slice_index_or, Ok, Err, refl, sym, ap, ap₂, ◌∙◌, subst, arith}
 use Rattle.std.proofs.lemmas.List.{length-map}
 use Rattle.texml_base.specs.Outside.{Shelf}
 use Rattle.texml_token.specs.Token.{Token}

@@ -1,5 +1,5 @@
 -- Fetching and expanding, step by step.
-use Rattle.std.proofs.Common.{◌≡◌, ◌+◌, ◌-◌, ◌≤◌, ◌<◌, ℕ, Bool, List, Option, Some, None, Result, Ok, Err, refl, sym, ap, subst, arith}
+use Rattle.std.proofs.Common.{◌≡◌, ◌+◌, ◌-◌, ◌≤◌, ◌<◌, ℕ, Bool, List, Option, Some, None, Result, Ok, Err, refl, sym, subst, arith}
 use Rattle.std.specs.Result.{OnOk}
 use Rattle.texml_token.specs.Token.{Token}
 use Rattle.texml_watch.specs.declared.record.Record.{Record}

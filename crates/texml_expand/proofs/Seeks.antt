@@ -1,8 +1,7 @@
 -- Text that is skipped up to what is sought for a conditional, word by word.
 use Rattle.std.proofs.Common.{◌≡◌, ◌+◌, ◌≤◌, ℕ, zero, suc, Bool, true, false, nat_le, if◌then◌else◌, List, [], ◌∷◌, length, map, refl, sym, ap, ◌∙◌, arith}
 use Rattle.texml_token.specs.Token.{Token}
-use Rattle.texml_token.specs.declared.fault_code.TheConstants.{FILE_ENDED, EXTRA_COND}
-use Rattle.texml_cond.specs.declared.limits.Bound.{Bound}
+use Rattle.texml_token.specs.declared.fault_code.TheConstants.{FILE_ENDED}
 use Rattle.texml_cond.specs.declared.limits.Word.{Word}
 use Rattle.texml_cond.specs.declared.limits.Word.TheVariants as words
 use Rattle.texml_cond.specs.Skipping.{skip}
@@ -13,10 +12,10 @@ use Rattle.texml_expand.specs.State.{State, Tex, room, nothing, Answer, Done, En
 use Rattle.texml_expand.specs.Take.{take_given, means}
 use Rattle.texml_expand.specs.Least.{inside, inner_token}
 use Rattle.texml_expand.specs.Branches.{Sought, Met, Ends, Chooses, Forbidden, Passes, meets}
-use Rattle.texml_expand.specs.Conditionals.{bounded, closed, reached, skipped, met_own, met_inner, met_word, seek_past, seek}
+use Rattle.texml_expand.specs.Conditionals.{closed, reached, skipped, met_own, met_inner, met_word, seek_past, seek}
 use Rattle.texml_expand.proofs.Items.{size-cons}
 use Rattle.texml_expand.proofs.Deciding.{after_nothing}
-use Rattle.texml_expand.proofs.Leading.{Leads, leads_at}
+use Rattle.texml_expand.proofs.Leading.{Leads}
 use Rattle.texml_expand.proofs.Stepping.{by_least_cut}
 use Rattle.texml_expand.proofs.Skips.{Reaches, skipped_reaches}
 

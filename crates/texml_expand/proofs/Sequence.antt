@@ -1,8 +1,8 @@
 -- One quiet reading after the other.
-use Rattle.std.proofs.Common.{◌≡◌, ℕ, List, [], ◌++◌, Result, Ok, Err, sym, ap, subst}
+use Rattle.std.proofs.Common.{ℕ, List, [], ◌++◌, Result, Ok, Err, sym, ap, subst}
 use Rattle.texml_expand.specs.declared.stop.Stop.{Stop}
 use Rattle.texml_expand.specs.declared.stop.Stop.TheVariants as stop
-use Rattle.texml_expand.specs.State.{State, loads, Answer, Done, Reading, after, chain}
+use Rattle.texml_expand.specs.State.{State, loads, Answer, Reading, after, chain}
 use Rattle.texml_expand.specs.Contract.{Silent, Quiet}
 
 -- a call that asks nothing

@@ -1,11 +1,11 @@
 -- An engine that skips text.
-use Rattle.std.proofs.Common.{◌≡◌, ℕ, IsTrue, List, [], ◌∷◌, ◌++◌, None, Some, Result, Ok, Err, refl, sym, ap, ◌∙◌, subst, arith}
+use Rattle.std.proofs.Common.{◌≡◌, ℕ, IsTrue, List, [], ◌∷◌, ◌++◌, None, Some, Result, Ok, Err, refl, sym, ap, ◌∙◌, arith}
 use Rattle.texml_token.specs.Numbers.{token_at}
 use Rattle.texml_token.specs.declared.tokens.Token.{Token as TokenCode}
 use Rattle.texml_token.specs.declared.fault_code.TheConstants.{DEPTH}
 use Rattle.texml_scope.specs.Numbers.{meaning_at}
 use Rattle.texml_cond.specs.declared.limits.Word.{Word}
-use Rattle.texml_cond.specs.declared.skipping.SkipStep.TheVariants.{More, Reached, TooDeep}
+use Rattle.texml_cond.specs.declared.skipping.SkipStep.TheVariants.{Reached, TooDeep}
 use Rattle.texml_cond.specs.Skipping.{MeaningCode, part_of, skip, Fed}
 use Rattle.texml_cond.proofs.Texts.{part_says}
 use Rattle.texml_expand.specs.declared.stop.Stop.{Stop}

@@ -1,11 +1,11 @@
 -- What files gave in calls that go together.
-use Rattle.std.proofs.Common.{◌≡◌, ◌+◌, ◌*◌, ◌≤◌, ℕ, Bool, true, false, if◌then◌else◌, IsTrue, List, [], ◌∷◌, ◌++◌, length, length-append, sum_by, append_assoc, append-nil, Result, Ok, Err, refl, sym, ap, ◌∙◌, subst, arith}
+use Rattle.std.proofs.Common.{◌≡◌, ◌+◌, ◌≤◌, ℕ, Bool, false, IsTrue, List, [], ◌∷◌, length, length-append, sum_by, append_assoc, append-nil, Result, Ok, Err, refl, sym, ap, ◌∙◌, subst, arith}
 use Rattle.std.proofs.lemmas.List.Sums.{sum_by-append, sum_by-cons}
 use Rattle.texml_base.specs.Rising.{add_up}
 use Rattle.texml_base.specs.Outside.{Shelf}
 use Rattle.texml_text.specs.Reader.{Reader, fresh_reader, block}
 use Rattle.texml_text.proofs.Filling.{add_up_twice}
-use Rattle.texml_input.specs.Held.{Source, Plain, Marked, File, Fence, ids_of, ahead_of, AreLittle, front_size}
+use Rattle.texml_input.specs.Held.{Source, Plain, Marked, File, Fence, ids_of, ahead_of, AreLittle}
 use Rattle.texml_expand.specs.declared.stop.Stop.{Stop}
 use Rattle.texml_expand.specs.declared.stop.Stop.TheVariants as stop
 use Rattle.texml_expand.specs.State.{State, Gains, bytes_in, nothing, ◌⊕◌, Answer, Done, Ended, Unfinished, Reading, after, chain, added}

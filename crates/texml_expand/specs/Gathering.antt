@@ -1,5 +1,5 @@
 -- Tokens that are gathered, expanded as they come (The TeXbook, chapter 20).
-use Rattle.std.specs.Prelude.{Bool, true, false, ◌==◌, ◌||◌, List, [], ◌∷◌, ◌++◌, map, flat_map, if◌then◌else◌, Option, Some, None}
+use Rattle.std.specs.Prelude.{Bool, true, false, ◌==◌, ◌||◌, List, [], ◌∷◌, ◌++◌, map, flat_map, if◌then◌else◌}
 use Rattle.texml_token.specs.Token.{Token, Char, has_category}
 use Rattle.texml_token.specs.declared.category.TheConstants.{PARAMETER, SPACE}
 use Rattle.texml_token.specs.declared.fault_code.TheConstants.{FILE_ENDED, MISSING_NUMBER, MISSING_ENDCSNAME}

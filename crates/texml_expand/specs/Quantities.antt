@@ -150,7 +150,7 @@ scan_fault IllegalUnit = ILLEGAL_UNIT
 abbrev pub put_last : ℕ → List Seen → State → State
 put_last n seen = put (map (λ x. x.token) (drop (length seen - n) seen))
 
--- what was decided: a list that is too short never ends a reading
+-- what was decided; a grammar that wanted more behind the end of the text would lack its number, and none does
 abbrev pub decided_on : {V : Type 0} → List Seen → Verdict V → Reading V
 decided_on seen (Wanting w) = fail MISSING_NUMBER []
 decided_on seen (Decided v n) = do

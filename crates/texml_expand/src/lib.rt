@@ -25,7 +25,7 @@ mod variables;
 pub use engine::{ESCAPE, Engine, Looked, means_space};
 pub use feeding::{Feeder, Verdict};
 pub use internal::Internal;
-pub use laws::{always_decides, decides_once};
+pub use laws::{always_decides, decides_once, readings_need_no_bound};
 pub use stop::Stop;
 pub use texml_input::Read;
 pub use variables::{Index, LAST_REGISTER, Variable, index_of, key_of, variable_at};

@@ -38,7 +38,7 @@ impl<'c, 'a> Model for Document<'c, 'a> {
 
     ghost view = { λ d. d.done.ops };
 
-    ghost invariant = { λ d. ForSome d.tree (λ t. t ≡ record { table = elements; ops = d.done.ops }) };
+    ghost invariant = { λ d. ForSome d.tree (λ t. (t.table ≡ elements) × (t.ops ≡ d.done.ops)) };
 }
 
 impl<'c, 'a> Document<'c, 'a> {

@@ -52,9 +52,10 @@ impl Engine {
     ///
     /// # Errors
     ///
-    /// `Tex` with fault 4 where a text ends inside the group, and with fault 15 where an invalid character stands in it; where
-    /// tokens are expanded, those of `fetch`. `ReadFailed` only where the count of faults of `files` rose in this call, `NoMemory`
-    /// where memory was refused, and the stop that is kept.
+    /// `Tex` with fault 4 where a text ends inside the group, with fault 15 where an invalid character stands in it, and with fault 20
+    /// where a line is not UTF-8; where tokens are expanded, the faults of `fetch`, and `Limit` where one expansion too many would begin.
+    /// `ReadFailed` and `TellFailed` only where the count of faults of `files` or `tell` rose in this call, `NoMemory` where memory was
+    /// refused; the records told until then are the first of those that would be told. And the stop that is kept.
     pub fn absorb<F: Files, T: Teller>(
         &mut self,
         files: &mut F,

@@ -120,10 +120,11 @@ impl Engine {
     ///
     /// # Errors
     ///
-    /// `Tex` with fault 15 where an invalid character stands there, with fault 1 about the spelling of a token without a
-    /// meaning, and with the faults of `expand_once`. `Limit` where one expansion too many would begin.
-    /// `TellFailed` only where the count of faults of `tell` rose in this call, `NoMemory` where memory was refused; the
-    /// records told until then are the first of those that would be told. And the stop that is kept.
+    /// `Tex` with fault 15 where an invalid character stands there, with fault 20 where a line is not UTF-8, with fault 1 about the
+    /// spelling of a token without a meaning, with fault 4 where a file has ended inside a group that is absorbed with expanding, and
+    /// with the faults of `expand_once`. `Limit` where one expansion too many would begin. `ReadFailed` and `TellFailed` only where the
+    /// count of faults of `files` or `tell` rose in this call, `NoMemory` where memory was refused; the records told until then are the
+    /// first of those that would be told. And the stop that is kept.
     #[inline(always)]
     pub fn fetch<F: Files, T: Teller>(
         &mut self,
@@ -156,7 +157,7 @@ impl Engine {
     ///
     /// # Errors
     ///
-    /// Those of `fetch`.
+    /// Those of `fetch`, with the same causes.
     pub fn look<F: Files, T: Teller>(
         &mut self,
         files: &mut F,

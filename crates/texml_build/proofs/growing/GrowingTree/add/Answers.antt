@@ -10,4 +10,4 @@ pub invariant_of-self-in_default : goal.invariant_of-self-in_default
 invariant_of-self-in_default c =
     let r = rules_of c.self.inside.content.now in let ops = c.self.inside.done.ops in
     let before = subst (λ (x : Result (Unit {0}) BuildFault). Does r (steps r ops) (fresh r) (held_of c.self.inside.builder) x) (sym c.replace-state.ensures.value) c.self.invariant in
-    subst (λ (l : List Op). Does r (steps r l) (fresh r) (held_of c.advance.new.builder) c.advance.result) (sym c.with-self-inside.ensures) (c.advance.ensures ops before)
+    subst (λ (l : List Op). Does r (steps r l) (fresh r) (held_of c.advance.new.builder) c.advance.result) (sym c.with-self-inside.ensures) (c.advance.ensures.does ops before)

@@ -71,9 +71,9 @@ use Rattle.texml_expand.specs.Front.{Plain}
 use Rattle.texml_expand.specs.Gathering.{copies}
 use Rattle.texml_expand.proofs.Gathered.{gather_stops, gather_ends, gather_broken, gather_unleft, gather_yields, gather_refuses, gathers_token, gathers_expansion, gather_unexpanded, gather_short, once_stops, once_expanded}
 use Rattle.std.specs.Prelude.{string_bytes}
-use Rattle.texml_expand.specs.Include.{peeked, bytes_of, argument_alone, characters, file_name, end_input}
+use Rattle.texml_expand.specs.Include.{peeked, bytes_of, argument_alone, characters, end_input}
 use Rattle.texml_expand.proofs.Including.{lawful_peeked, lawful_argument_alone, lawful_characters, lawful_end_input}
-use Rattle.texml_expand.proofs.FileNames.{name_unseen, name_seen, plain_stops, plain_does, argument_stops, argument_unread, argument_does, left_stops, left_does, up_does, unfenced_shrinks}
+use Rattle.texml_expand.proofs.FileNames.{name_unseen, name_seen, plain_stops, plain_does, argument_stops, argument_unread, argument_does, left_stops, left_does, up_does}
 use Rattle.texml_input.specs.Held.{IsAtFence}
 use Rattle.texml_expand.specs.contracts.engine.Engine.{the_view}
 use Rattle.texml_expand.specs.declared.gathering.Gathering.TheVariants.{All}

@@ -1,4 +1,4 @@
-use Rattle.std.proofs.Common.{subst, sym, Ok, Err, true, false, length, None, [], ◌≡◌, ◌+◌}
+use Rattle.std.proofs.Common.{subst, sym, Ok, true, false, length, None, [], ◌≡◌, ◌+◌}
 use Rattle.texml_token.specs.Numbers.{tokens_at}
 use Rattle.texml_expand.specs.Contract.{outside}
 use Rattle.texml_expand.specs.contracts.engine.Engine.{the_view}

@@ -1,4 +1,4 @@
-use Rattle.std.proofs.Common.{rules, length, ◌++◌, refl}
+use Rattle.std.proofs.Common.{length, ◌++◌, refl}
 use Rattle.texml_token.proofs.Translation.{params_more}
 use Rattle.texml_expand.proofs.Called.{arguments_stop, arguments_out, arguments_done}
 use Rattle.texml_expand.proofs.Stopping.{passed_on}

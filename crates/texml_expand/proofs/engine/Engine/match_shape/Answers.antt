@@ -1,4 +1,4 @@
-use Rattle.std.proofs.Common.{rules, arith, [], ap, subst, sym, ◌≡◌}
+use Rattle.std.proofs.Common.{arith, [], ap, subst, sym, ◌≡◌}
 use Rattle.texml_token.specs.Numbers.{Table, token_at}
 use Rattle.texml_match.specs.Reading.{Wants}
 use Rattle.texml_match.specs.Left.{left, Says, Reads}
