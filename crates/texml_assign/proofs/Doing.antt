@@ -2,7 +2,7 @@
 use Rattle.std.proofs.Common.{◌≡◌, ◌+◌, ℕ, IsTrue, [], Option, None, Some, Result, Ok, Err, refl, sym, ap, ◌∙◌, subst, arith}
 use Rattle.std.specs.Result.{OnOk, IfOk}
 use Rattle.texml_base.specs.Outside.{Shelf}
-use Rattle.texml_token.proofs.Table.{extends_refl, extends_trans}
+use Rattle.texml_token.proofs.Table.{extends_refl}
 use Rattle.texml_watch.specs.declared.record.Record.{Record}
 use Rattle.texml_expand.proofs.Progress.{progress_same, progress_then}
 use Rattle.texml_expand.specs.declared.stop.Stop.{Stop}

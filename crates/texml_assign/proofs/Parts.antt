@@ -16,10 +16,9 @@ use Rattle.texml_expand.specs.declared.feeding.Verdict.{Verdict}
 use Rattle.texml_expand.specs.declared.feeding.Verdict.TheVariants.{TooShort, Yields, Refuses}
 use Rattle.texml_expand.proofs.Least.{Decides, by_least_decided, by_least_leads}
 use Rattle.texml_expand.specs.State.{State, nothing, room, Done, Reading, chain, IsDecided, give, change}
-use Rattle.texml_expand.specs.Expand.{take_given, take, back, put}
+use Rattle.texml_expand.specs.Expand.{take_given, take, put}
 use Rattle.texml_expand.specs.Contract.{Lower}
-use Rattle.texml_input.specs.Rest.{Tok}
-use Rattle.texml_expand.proofs.Items.{size-cons, size_put}
+use Rattle.texml_expand.proofs.Items.{size_put}
 use Rattle.texml_expand.proofs.Leading.{Leads, leads_chain, leads_weaker, lower_none, lower_then, count, take_leads}
 use Rattle.texml_expand.proofs.Deciding.{any, chain_decided, take_decided}
 use Rattle.texml_assign.specs.Loop.{ByDepth, On, Over}

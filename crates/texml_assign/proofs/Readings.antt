@@ -1,5 +1,5 @@
 -- Readings by the depth of the calls in them: what some depth decides each deeper one does, some depth decides, and no more is left to be read.
-use Rattle.std.proofs.Common.{◌≡◌, ℕ, IsTrue, Bool, true, false, if◌then◌else◌, List, [], Result, Ok, Err, refl, sym, ◌∙◌, subst, arith}
+use Rattle.std.proofs.Common.{◌≡◌, ℕ, IsTrue, Bool, true, false, if◌then◌else◌, List, Result, Ok, Err, refl, sym, ◌∙◌, subst, arith}
 use Rattle.texml_watch.specs.declared.record.Record.{Record}
 use Rattle.texml_expand.specs.declared.stop.Stop.{Stop}
 use Rattle.texml_expand.specs.declared.stop.Stop.TheVariants as stop

@@ -6,7 +6,7 @@ use Rattle.texml_token.specs.declared.fault_code.TheConstants.{BAD_PARAMETER}
 use Rattle.texml_scope.specs.Texts.{Meaning}
 use Rattle.texml_scope.specs.Values.{Macro as MacroBy}
 use Rattle.texml_scope.specs.declared.values.MeaningOf.TheVariants.{Macro}
-use Rattle.texml_expand.specs.State.{Reading, ◌>>=◌, ◌>>◌, give, fail, change}
+use Rattle.texml_expand.specs.State.{Reading, ◌>>=◌, give, fail, change}
 use Rattle.texml_expand.specs.Least.{by_least}
 use Rattle.texml_expand.specs.Absorb.{absorb}
 use Rattle.texml_assign.specs.Loop.{ByDepth}

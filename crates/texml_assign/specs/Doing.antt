@@ -1,5 +1,5 @@
 -- What a call that reads from an engine does, as the private contracts of this crate say it.
-use Rattle.std.specs.Prelude.{◌≡◌, Result}
+use Rattle.std.specs.Prelude.{Result}
 use Rattle.std.specs.Result.{OnOk}
 use Rattle.texml_watch.specs.declared.record.Record.{Record}
 use Rattle.texml_expand.specs.declared.stop.Stop.{Stop}

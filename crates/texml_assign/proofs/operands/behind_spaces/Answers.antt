@@ -3,7 +3,7 @@ use Rattle.texml_token.specs.Numbers.{token_at}
 use Rattle.texml_token.specs.declared.fault_code.TheConstants.{FILE_ENDED}
 use Rattle.texml_expand.specs.Held.{state_of}
 use Rattle.texml_assign.specs.Loop.{On, Over}
-use Rattle.texml_assign.specs.Operands.{token_or_end, space_turn, spaces_loop}
+use Rattle.texml_assign.specs.Operands.{space_turn, spaces_loop}
 use Rattle.texml_expand.proofs.Stopping.{passed_on}
 use Rattle.texml_assign.proofs.Doing.{does_now, does_out, does_fault, goes_stops, goes_ends, goes_turn_stops, goes_over, goes_on}
 use Rattle.texml_assign.proofs.Commands.{plain_space_turn, space_is, spaces_laws}

@@ -67,19 +67,19 @@ pub returns-in-Ok-clause-few : goal.returns-in-Ok-clause-few
 returns-in-Ok-clause-few c =
     let running = ap (λ (h : Held). h.stop) c.wrote.ensures ∙ c.requires.running in
     let w = put_writes c.wrote.new.self c.put.new.self (put (tokens_at c.wrote.new.self.names c.in-Ok.after)) c.put.result (c.put.ensures.put running) (c.put.ensures.rest running) in
-    end_few c.args.engine.now c.wrote.new.self c.put.new.self c.end-ended.new.self _ _ c.wrote.ensures w.0 (rw c.scope.ensures.value at c.in-Ok.ensures.few)
+    end_few c.args.engine.now c.wrote.new.self c.put.new.self c.end-ended.new.self _ _ c.wrote.ensures w.0 (rw (c.scope.ensures.value, c.new-steps.ensures) at c.in-Ok.ensures.few)
 
 pub returns-in-Ok-clause-many : goal.returns-in-Ok-clause-many
 returns-in-Ok-clause-many c =
     let running = ap (λ (h : Held). h.stop) c.wrote.ensures ∙ c.requires.running in
     let w = put_writes c.wrote.new.self c.put.new.self (put (tokens_at c.wrote.new.self.names c.in-Ok.after)) c.put.result (c.put.ensures.put running) (c.put.ensures.rest running) in
-    end_many c.args.engine.now c.wrote.new.self c.put.new.self c.end-ended.new.self _ c.wrote.ensures w (rw c.scope.ensures.value at c.in-Ok.ensures.many)
+    end_many c.args.engine.now c.wrote.new.self c.put.new.self c.end-ended.new.self _ c.wrote.ensures w (rw (c.scope.ensures.value, c.new-steps.ensures) at c.in-Ok.ensures.many)
 
 pub returns-in-Err-clause-few : goal.returns-in-Err-clause-few
 returns-in-Err-clause-few c =
-    end_few c.args.engine.now c.wrote.new.self c.bare_fault.new.self c.end-ended.new.self _ _ c.wrote.ensures (ap (λ (h : Held). h.writes) c.bare_fault.ensures.kept) (rw c.scope.ensures.value at c.in-Err.ensures.few)
+    end_few c.args.engine.now c.wrote.new.self c.bare_fault.new.self c.end-ended.new.self _ _ c.wrote.ensures (ap (λ (h : Held). h.writes) c.bare_fault.ensures.kept) (rw (c.scope.ensures.value, c.new-steps.ensures) at c.in-Err.ensures.few)
 
 pub returns-in-Err-clause-many : goal.returns-in-Err-clause-many
 returns-in-Err-clause-many c =
     let kept = c.bare_fault.ensures.kept in
-    end_many c.args.engine.now c.wrote.new.self c.bare_fault.new.self c.end-ended.new.self _ c.wrote.ensures (ap (λ (h : Held). h.writes) kept, ap (λ (h : Held). h.scope) kept) (rw c.scope.ensures.value at c.in-Err.ensures.many)
+    end_many c.args.engine.now c.wrote.new.self c.bare_fault.new.self c.end-ended.new.self _ c.wrote.ensures (ap (λ (h : Held). h.writes) kept, ap (λ (h : Held). h.scope) kept) (rw (c.scope.ensures.value, c.new-steps.ensures) at c.in-Err.ensures.many)
