@@ -8,8 +8,8 @@ use Rattle.std.proofs.lemmas.List.Quantifiers.{position-Some}
 use Rattle.std.proofs.Math.Seq.{drop-cons, drop-length}
 use Rattle.std.specs.Str.Lines.{strip_carriage_return}
 use Rattle.texml_text.specs.File.{row, last_row, rows_behind, begins_with_mark}
-use Rattle.texml_text.specs.Reader.{past_line}
-use Rattle.texml_text.specs.Inside.{has_feed, IsWhole, Cuts, CutsNone}
+use Rattle.texml_text.specs.Reader.{has_feed, past_line}
+use Rattle.texml_text.specs.Inside.{IsWhole, Cuts, CutsNone}
 
 -- no byte at the front is a line feed
 front_no_feed : (x : ℕ) (xs : List ℕ) → has_feed (x ∷ xs) ≡ false → (x == 10) ≡ false

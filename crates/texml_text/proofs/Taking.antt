@@ -6,9 +6,9 @@ use Rattle.std.specs.Str.{chars, IsUtf8, chars_after, continuation_len, lead_bit
 use Rattle.texml_base.specs.Outside.{Shelf}
 use Rattle.texml_text.specs.Lines.{trim_end, end_codes, loaded}
 use Rattle.texml_text.specs.File.{row, rows_of_rest}
-use Rattle.texml_text.specs.Reader.{Reader, rows_left, GivesLine, room, weight, first_size, Spends}
+use Rattle.texml_text.specs.Reader.{Reader, has_feed, rows_left, GivesLine, room, weight, first_size, Spends}
 use Rattle.texml_text.specs.declared.reader.LineFault.TheVariants.{NotUtf8}
-use Rattle.texml_text.specs.Inside.{has_feed, Filled, Cuts, CutsNone, passed}
+use Rattle.texml_text.specs.Inside.{Filled, Cuts, CutsNone, passed}
 
 trim_by : (b : Bool) (c : ℕ) (cs xs : List ℕ) → length xs ≤ length cs → length (cond b [] (c ∷ xs)) ≤ length (c ∷ cs)
 trim_by true c cs xs h = omega arith

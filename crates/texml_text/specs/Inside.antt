@@ -1,18 +1,15 @@
 -- Only contracts of private functions need these: what filling a buffer does, and the first line of a buffer.
-use Rattle.std.specs.Prelude.{◌≡◌, ◌≤◌, ℕ, ◌+◌, ◌==◌, if◌then◌else◌, Bool, true, false, IsTrue, List, [], ◌∷◌, ◌++◌, length, drop, Option}
-use Rattle.std.specs.List.{All, list_any}
+use Rattle.std.specs.Prelude.{◌≡◌, ◌≤◌, ℕ, ◌+◌, if◌then◌else◌, Bool, true, false, IsTrue, List, [], ◌∷◌, ◌++◌, length, drop, Option}
+use Rattle.std.specs.List.{All}
 use Rattle.std.specs.Char.{IsScalar}
 use Rattle.std.specs.Str.{chars, is_utf8}
 use Rattle.texml_base.specs.Rising.{add_up}
 use Rattle.texml_base.specs.Outside.{Shelf}
-use Rattle.texml_text.specs.Lines.{line_feed, loaded}
+use Rattle.texml_text.specs.Lines.{loaded}
 use Rattle.texml_text.specs.File.{mark_size, row, rows_of_rest}
-use Rattle.texml_text.specs.Reader.{Reader, past_line}
+use Rattle.texml_text.specs.Reader.{Reader, has_feed, past_line}
 use Rattle.texml_text.specs.declared.reader.Loaded.{Loaded}
 use Rattle.texml_text.specs.declared.reader.Loaded.TheVariants.{Nothing, Line, NotUtf8, NoMemory}
-
-abbrev pub has_feed : List ℕ → Bool
-has_feed = list_any (λ b. b == line_feed)
 
 -- bytes that a file gave were put behind others
 pub record Filled (old new : Shelf) (id : ℕ) (before after : List ℕ) : Type 0 where

@@ -1,5 +1,6 @@
 -- What a reader of lines shows, and what its answers say of the file.
 use Rattle.std.specs.Prelude.{◌≡◌, ◌≤◌, ℕ, ◌+◌, ◌*◌, ◌==◌, if◌then◌else◌, Bool, true, List, [], ◌∷◌, ◌++◌, length, Option, Some, None, Result, Ok, Err, IsErrOf}
+use Rattle.std.specs.List.{list_any}
 use Rattle.texml_base.specs.Rising.{Rose, add_up}
 use Rattle.texml_base.specs.Outside.{Shelf, OthersSame}
 use Rattle.texml_text.specs.Lines.{line_feed, loaded}
@@ -83,6 +84,10 @@ pub record Spends (old new : Shelf) (before loaded after : ℕ) : Type 0 where
 -- how many bytes are read at once, and how many may be held past the end of a line
 abbrev pub block : ℕ
 block = 4096
+
+-- bytes have a line feed
+abbrev pub has_feed : List ℕ → Bool
+has_feed = list_any (λ b. b == line_feed)
 
 -- the bytes past the end of the first line, which is not all of them
 abbrev pub past_line : List ℕ → ℕ

@@ -1,5 +1,5 @@
 //! The lines of a file, read in blocks.
-ghost use Rattle.std.specs.Prelude.{◌≡◌, ◌≤◌, ◌<◌, ℕ, ◌+◌, ◌==◌, [], ◌++◌, length, position, false, IsTrue, None, Err, MatchOption, IfSome, IfOk, IfErr, OnOk, vec_len, vec_capacity};
+ghost use Rattle.std.specs.Prelude.{◌≡◌, ◌≤◌, ◌<◌, ℕ, ◌+◌, ◌==◌, [], ◌++◌, length, position, true, false, IsTrue, None, Err, MatchOption, IfSome, IfOk, IfErr, OnOk, vec_len, vec_capacity};
 ghost use Rattle.std.specs.Char.{IsScalar};
 ghost use Rattle.std.specs.List.{All};
 ghost use Rattle.std.specs.Str.{chars};
@@ -7,8 +7,8 @@ ghost use Rattle.std.specs.Str.Lines.{strip_carriage_return};
 ghost use Rattle.texml_base.specs.Outside.{in_use};
 ghost use Rattle.texml_text.specs.Lines.{line_feed, loaded};
 ghost use Rattle.texml_text.specs.File.{begins_with_mark, character};
-ghost use Rattle.texml_text.specs.Reader.{fresh_reader, rows_left, GivesLine, number_after, fault_after, Touches, room, weight, bytes_loaded, Spends, block, past_line, HoldsLittle, HasLineCause};
-ghost use Rattle.texml_text.specs.Inside.{has_feed, Filled, Cuts, CutsNone, Loads, passed};
+ghost use Rattle.texml_text.specs.Reader.{fresh_reader, rows_left, GivesLine, number_after, fault_after, Touches, room, weight, bytes_loaded, Spends, block, has_feed, past_line, HoldsLittle, HasLineCause};
+ghost use Rattle.texml_text.specs.Inside.{Filled, Cuts, CutsNone, Loads, passed};
 
 use crate::lines::{chars_of, load};
 use std::alloc::{AllocError, Global};
@@ -127,6 +127,7 @@ impl LineReader {
         ensures spends { self.old.fault ≡ None → IsTrue (F.shelf files.old).tells → Spends (F.shelf files.old) (F.shelf files.new) (length self.old.held) (bytes_loaded result (rows_left (F.shelf files.old) self.old)) (length self.new.held) }
         ensures little { self.old.fault ≡ None → length self.old.held ≤ block → HoldsLittle result self.new.held }
         ensures cause { self.old.fault ≡ None → HasLineCause (F.faults files.old) (F.faults files.new) result }
+        ensures at_hand { self.old.fault ≡ None → has_feed self.old.held ≡ true → (F.shelf files.new ≡ F.shelf files.old) × (F.faults files.new ≡ F.faults files.old) }
         ensures fault { self.old.fault ≡ None → self.new.fault ≡ fault_after result }
         ensures stays { IfSome self.old.fault (λ fault. (result ≡ Err fault) × (self.new ≡ self.old) × (F.shelf files.new ≡ F.shelf files.old) × (F.faults files.new ≡ F.faults files.old)) }
     {
@@ -156,6 +157,7 @@ impl LineReader {
         ensures spends { IsTrue (F.shelf files.old).tells → Spends (F.shelf files.old) (F.shelf files.new) (length self.old.held) (bytes_loaded result (rows_left (F.shelf files.old) self.old)) (length self.new.held) }
         ensures little { length self.old.held ≤ block → HoldsLittle result self.new.held }
         ensures cause { HasLineCause (F.faults files.old) (F.faults files.new) result }
+        ensures at_hand { has_feed self.old.held ≡ true → (F.shelf files.new ≡ F.shelf files.old) × (F.faults files.new ≡ F.faults files.old) }
         ensures fault { self.new.fault ≡ self.old.fault }
     {
         self.fill(files)?;
@@ -217,6 +219,7 @@ impl LineReader {
         ensures little { length self.old.held ≤ block → past_line self.new.held ≤ block }
         ensures cause { HasLineCause (F.faults files.old) (F.faults files.new) result }
         ensures read { IfErr result (λ fault. fault ≡ LineFault.NotUtf8 → ⊥) }
+        ensures at_hand { has_feed self.old.held ≡ true → (F.shelf files.new ≡ F.shelf files.old) × (F.faults files.new ≡ F.faults files.old) }
     {
         if has_feed(self.held()) {
             return Ok(());

@@ -1,6 +1,6 @@
 use Rattle.std.proofs.Common.{◌≡◌, false}
-use Rattle.texml_text.specs.Reader.{Touches}
-use Rattle.texml_text.specs.Inside.{has_feed, Filled}
+use Rattle.texml_text.specs.Reader.{Touches, has_feed}
+use Rattle.texml_text.specs.Inside.{Filled}
 use Rattle.texml_text.proofs.reader.read_line.Given as goal
 
 abbrev pub invariant-loop-files : goal.invariant-loop-files
