@@ -22,6 +22,8 @@ mod small;
 #[cfg(test)]
 mod steps;
 #[cfg(test)]
+mod top;
+#[cfg(test)]
 mod tree;
 #[cfg(test)]
 mod xref;

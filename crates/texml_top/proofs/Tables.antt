@@ -1,6 +1,5 @@
 -- The table of elements is a content model, and the page of a tree that was built by it is that of a valid document.
-use Rattle.std.proofs.Common.{◌≡◌, ◌≢◌, ◌∙◌, ℕ, ap, List, [], Result, Ok, Err, Some, refl, sym, subst}
-use Rattle.std.specs.Prelude.{codes}
+use Rattle.std.proofs.Common.{◌≡◌, ◌≢◌, ◌∙◌, ℕ, ap, List, [], Result, Ok, Err, refl, sym, subst}
 use Rattle.texml_base.specs.Outside.{Ink}
 use Rattle.texml_tree.specs.declared.table.Elements.{Elements}
 use Rattle.texml_tree.specs.declared.ops.Op.{Op}
@@ -17,10 +16,9 @@ use Rattle.texml_build.proofs.Lawful.{built_valid}
 use Rattle.texml_xref.specs.Refs.{LinkedTree, heads, linked}
 use Rattle.texml_html.specs.Html.{AllKnown, html}
 use Rattle.texml_html.proofs.Known.{valid_is_known}
-use Rattle.texml_top.specs.Table.{line_by, elements, rules}
+use Rattle.texml_top.specs.Table.{line_by, elements, rules, AreNamed}
 use Rattle.texml_top.specs.Document.{page_of, page_by, document, IsPage}
 use Rattle.texml_top.specs.Run.{unbuilt, EndsPage}
-use Rattle.texml_top.specs.declared.table.TheConstants.{PARAGRAPH, BREAK, CODE}
 use Rattle.texml_top.proofs.References.{cross_referenced}
 
 pub table_is_model : IsContentModel elements
@@ -31,17 +29,9 @@ pub is_model : (table : Elements) → table ≡ elements → IsContentModel tabl
 is_model table h = subst IsContentModel (sym h) table_is_model
 
 -- the elements that digestion opens and closes have their names
-paragraph : rules.named (codes "p") ≡ Some PARAGRAPH.0
+pub are_named : AreNamed
 unfolding elements line_by rules_of
-paragraph = refl
-
-break : rules.named (codes "break") ≡ Some BREAK.0
-unfolding elements line_by rules_of
-break = refl
-
-code : rules.named (codes "code") ≡ Some CODE.0
-unfolding elements line_by rules_of
-code = refl
+are_named = record { paragraph = refl; break = refl; code = refl }
 
 table_model : IsModel rules
 table_model = record { sound = rules_sound elements; void = void_is_empty elements table_is_model; root = root_named elements table_is_model }

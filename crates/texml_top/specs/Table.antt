@@ -1,5 +1,5 @@
 -- The table of elements, by its rows. An element is its place among the lines, an attribute its place among the attributes.
-use Rattle.std.specs.Prelude.{ℕ, true, List, [], ◌++◌, map, fold, Option}
+use Rattle.std.specs.Prelude.{◌≡◌, ℕ, true, List, [], ◌++◌, map, fold, Option, Some, codes}
 use Rattle.std.specs.Option.{option_map}
 use denote.Ref.{Bor}
 use Rattle.texml_tree.specs.declared.table.Flags.{Flags}
@@ -10,7 +10,7 @@ use Rattle.texml_top.specs.declared.table.Flag.{Flag}
 use Rattle.texml_top.specs.declared.table.Flag.TheVariants.{Text, Block, Opens, Closes, Id, Toc, Void}
 use Rattle.texml_top.specs.declared.table.Set.{Set}
 use Rattle.texml_top.specs.declared.table.Set.TheVariants.{Nothing, Inline, Blocks}
-use Rattle.texml_top.specs.declared.table.TheConstants.{INLINE, BLOCKS, ROWS, ATTRIBUTES, NO_FLAGS}
+use Rattle.texml_top.specs.declared.table.TheConstants.{INLINE, BLOCKS, ROWS, ATTRIBUTES, NO_FLAGS, PARAGRAPH, BREAK, CODE}
 
 abbrev pub with_flag : Flags → Flag → Flags
 with_flag flags Text = record flags { text = true }
@@ -49,3 +49,9 @@ elements = record {
 -- what the table says
 abbrev pub rules : Rules
 rules = rules_of elements
+
+-- the elements that digestion opens and closes, by their names
+pub record AreNamed : Type 0 where
+  pub paragraph : rules.named (codes "p") ≡ Some PARAGRAPH.0
+  pub break : rules.named (codes "break") ≡ Some BREAK.0
+  pub code : rules.named (codes "code") ≡ Some CODE.0

@@ -3,7 +3,7 @@ ghost use Rattle.std.specs.Prelude.{◌≡◌, ℕ, List};
 ghost use Rattle.std.specs.declared.option.Option.{Option};
 ghost use Rattle.texml_top.specs.Document.{GatheringKeepsTheDocument};
 ghost use Rattle.texml_top.specs.Outcome.{OneOutcome};
-ghost use Rattle.texml_top.specs.Table.{elements};
+ghost use Rattle.texml_top.specs.Table.{elements, AreNamed};
 ghost use Rattle.texml_top.specs.Written.{written};
 
 /// Whatever the words and the files are, a run has one outcome.
@@ -20,4 +20,9 @@ pub fn gathering_keeps_the_document()
 #[tactic(auto, unfolding(crate::specs::Table::elements, crate::specs::Table::line_by))]
 pub fn elements_are_written()
     ensures { elements ≡ written }
+{}
+
+/// The elements that digestion opens and closes are those of their names.
+pub fn digested_elements_are_named()
+    ensures { AreNamed }
 {}

@@ -20,14 +20,9 @@ mod table;
 mod top;
 mod verb;
 
-pub use laws::{elements_are_written, gathering_keeps_the_document, one_outcome};
+pub use laws::{
+    digested_elements_are_named, elements_are_written, gathering_keeps_the_document, one_outcome,
+};
 pub use notes::noted;
 pub use status::Status;
 pub use top::run;
-
-#[cfg(test)]
-mod document_tests;
-#[cfg(test)]
-mod request_tests;
-#[cfg(test)]
-mod tests;

@@ -1,13 +1,13 @@
+//! Runs over files and sinks that fail, or that never fail.
+
 ghost use Rattle.std.specs.Prelude.{◌≡◌, ◌≢◌, ◌≤◌, [], map, string_bytes, IfOk};
 ghost use Rattle.texml_base.specs.Memory.{memory_shelf, calm_shelf};
 ghost use Rattle.texml_top.specs.Outcome.{OfOutcome};
 
-use super::*;
 use std::alloc::{AllocError, Global};
 use std::test::Fail;
 use texml_base::{CalmFiles, CalmSink, MemoryFiles, MemorySink};
-use texml_token::Bytes;
-use texml_tree::ModelFault;
+use texml_top::{Status, run};
 
 const HEAD: &str =
     "<!DOCTYPE html>\n<html><head><meta charset=\"utf-8\"><title>untitled</title></head><body><main id=\"x0\">";
@@ -36,156 +36,20 @@ fn main_file(
     Ok(files)
 }
 
-// Runs on a file main.tex with this text, with so much room for what is written.
-fn run_on(
-    alloc: Global,
-    words: &[&str],
-    text: &[u8],
-    room: usize,
-) -> Result<(Status, MemorySink), AllocError> {
-    let mut files = main_file(alloc, text, 3, 0)?;
-    let mut out = MemorySink::new(alloc, room, 0)?;
-    let mut notes = MemorySink::new(alloc, 10, 0)?;
-    let words = words_of(alloc, words)?;
-    let status = run(alloc, &words, &mut files, &mut out, &mut notes);
-    Ok((status, out))
-}
-
-#[test]
-fn texts_have_their_first_fault(rt: HostRuntime) -> Result<(), Fail> {
-    let alloc = rt.alloc();
-    // A text, its fault's number, its line, and what the fault is about.
-    let rows: [(&[u8], u8, u64, &str); 23] = [
-        (b"a}", 17, 1, ""),
-        (b"a<b % c\n&\n", 18, 2, ""),
-        (b"x^y", 18, 1, ""),
-        (b"ok\n\n\xc3", 20, 3, ""),
-        (b"a~b", 1, 1, "~"),
-        (b"a\x7f\n\xff", 15, 1, ""),
-        (b"\\foo&", 1, 1, "\\foo"),
-        (b"\\def\\a{x", 4, 1, ""),
-        (b"\n\\def a{x}", 18, 2, ""),
-        (b"\\def\\a#2{}", 14, 1, ""),
-        (b"\\def\\a}", 22, 1, ""),
-        (b"\\def\\a{#}", 14, 1, ""),
-        (b"{\\def\\a{x}\\a}\n\\a", 1, 2, "\\a"),
-        (b"\\begingroup}", 16, 1, ""),
-        (b"{\\endgroup", 16, 1, ""),
-        (b"\\endgroup", 17, 1, ""),
-        (b"\\global x", 21, 1, ""),
-        (b"\\long\\let\\a=b", 21, 1, ""),
-        (b"\\global", 4, 1, ""),
-        (b"\\let a\\b", 18, 1, ""),
-        (b"\\let\\a", 4, 1, ""),
-        (b"\\let\\a=~\\a", 1, 1, "\\a"),
-        (b"\\afterassignment", 4, 1, ""),
-    ];
-    for (text, code, line, about) in rows {
-        let (status, out) = run_on(alloc, &["convert", "main.tex"], text, 1000)?;
-        match status {
-            Status::Tex(fault) => {
-                assert_eq!(rt; fault.code, code);
-                assert_eq!(rt; fault.line, line);
-                assert_eq!(rt; fault.file.as_slice(), b"main.tex".as_slice());
-                assert_eq!(rt; fault.about.as_slice(), about.as_bytes());
-                assert_eq!(rt; out.bytes().len(), 0);
-            }
-            _ => assert!(rt; false),
-        }
-    }
-    Ok(())
-}
-
 #[test]
 fn a_trace_is_cut_where_the_sink_fails(rt: HostRuntime) -> Result<(), Fail> {
     let alloc = rt.alloc();
     let trace = b"\\a -> b\n\\a -> b\n".as_slice();
     for room in 0..trace.len() + 1 {
-        let (status, out) = run_on(alloc, &["expand", "main.tex"], b"\\def\\a{b}\\a\\a", room)?;
-        match status {
+        let mut files = main_file(alloc, b"\\def\\a{b}\\a\\a", 3, 0)?;
+        let mut out = MemorySink::new(alloc, room, 0)?;
+        let words = words_of(alloc, &["expand", "main.tex"])?;
+        match run(alloc, &words, &mut files, &mut out, &mut CalmSink::new()) {
             Status::WriteFault => assert!(rt; room < trace.len()),
             Status::Done => assert_eq!(rt; room, trace.len()),
             _ => assert!(rt; false),
         }
         assert_eq!(rt; out.bytes(), &trace[..room]);
-    }
-    Ok(())
-}
-
-#[test]
-fn words_that_are_no_command_line_are_usage(rt: HostRuntime) -> Result<(), Fail> {
-    let alloc = rt.alloc();
-    let rows: [(&[&str], u8); 9] = [
-        (&[], 1),
-        (&["frob", "a"], 1),
-        (&["--help"], 1),
-        (&["convert"], 2),
-        (&["convert", ""], 2),
-        (&["convert", "--help"], 2),
-        (&["convert", "a", "b"], 2),
-        (&["convert", "a", "--limit", "0"], 2),
-        (&["self", "1"], 2),
-    ];
-    for (texts, which) in rows {
-        // The first open or read would fail.
-        let mut files = main_file(alloc, b"x", 1, 1)?;
-        let mut out = MemorySink::new(alloc, 1000, 0)?;
-        let mut notes = MemorySink::new(alloc, 10, 0)?;
-        let words = words_of(alloc, texts)?;
-        match run(alloc, &words, &mut files, &mut out, &mut notes) {
-            Status::Usage(found) => assert_eq!(rt; found, which),
-            _ => assert!(rt; false),
-        }
-        assert_eq!(rt; out.bytes().len(), 0);
-    }
-    Ok(())
-}
-
-#[test]
-fn missing_file_is_a_fault_about_its_name(rt: HostRuntime) -> Result<(), Fail> {
-    let alloc = rt.alloc();
-    let mut files = main_file(alloc, b"x", 1, 0)?;
-    let mut out = MemorySink::new(alloc, 10, 0)?;
-    let mut notes = MemorySink::new(alloc, 10, 0)?;
-    let words = words_of(alloc, &["convert", "-"])?;
-    match run(alloc, &words, &mut files, &mut out, &mut notes) {
-        Status::Tex(fault) => {
-            assert_eq!(rt; fault.code, 19);
-            assert_eq!(rt; fault.file.as_slice(), b"-".as_slice());
-            assert_eq!(rt; fault.line, 0);
-            assert_eq!(rt; fault.about.as_slice(), b"-".as_slice());
-        }
-        _ => assert!(rt; false),
-    }
-    Ok(())
-}
-
-#[test]
-fn each_status_has_its_line(rt: HostRuntime) -> Result<(), Fail> {
-    let alloc = rt.alloc();
-    let misplaced = Status::Model(ModelFault {
-        code: 1,
-        child: Bytes::from_slice(alloc, b"item")?,
-        parent: Bytes::from_slice(alloc, b"document")?,
-    });
-    let unclosed = Status::Model(ModelFault {
-        code: 4,
-        child: Bytes::from_slice(alloc, b"list")?,
-        parent: Bytes::new(alloc),
-    });
-    let rows = [
-        (Status::Done, ""),
-        (misplaced, "model fault 1 NoPlace item document\n"),
-        (unclosed, "model fault 4 Unclosed list\n"),
-        (Status::Limit(100), "limit 100 reached\n"),
-        (Status::ReadFault, "read failed\n"),
-        (Status::WriteFault, "write failed\n"),
-        (Status::NoMemory, "out of memory\n"),
-    ];
-    for (status, line) in rows {
-        let mut notes = MemorySink::new(alloc, 100, 0)?;
-        let _same = noted(&mut notes, status);
-        assert_eq!(rt; notes.bytes(), line.as_bytes());
     }
     Ok(())
 }
