@@ -9,6 +9,7 @@ use Rattle.texml_top.specs.Request.{asked}
 use Rattle.texml_top.specs.Outcome.{OfOutcome}
 use Rattle.texml_top.specs.Run.{MayEnd, FilesBlamed, SinkBlamed, LateAsked, PageAsked, DocumentAsked, LinesAsked, FitsWords, TouchesNothing}
 use Rattle.texml_top.specs.Reading.{ReadsAsked}
+use Rattle.texml_top.specs.Start.{SameOutside}
 use Rattle.texml_top.specs.Notes.{Noted}
 use Rattle.texml_top.specs.declared.status.Status.{Status}
 use Rattle.texml_top.specs.declared.status.Status.TheVariants as status
@@ -51,6 +52,7 @@ pub record ExitsRun (words : List (List ℕ)) (old new : Outside) (code : ℕ) :
   pub untouched : TouchesNothing (asked words) old.shelf new.shelf old.ink new.ink
   pub notes : Noted status old.notes new.notes old.note_faults new.note_faults
   pub closed : new.shelf.ids ≡ []
+  pub same : SameOutside old.shelf new.shelf
   pub little : IsTrue old.shelf.tells → ReadsAsked (asked words) old.shelf.contents old.shelf new.shelf
 
 -- the code is that of this status, which is noted, and nothing was opened or written

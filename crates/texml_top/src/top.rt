@@ -4,6 +4,7 @@ ghost use Rattle.texml_base.specs.Rising.{Rose};
 ghost use Rattle.texml_input.specs.Held.{AreLittle};
 ghost use Rattle.texml_expand.specs.Held.{Sound, Owns, Holding, state_of};
 ghost use Rattle.texml_top.specs.Request.{asked};
+ghost use Rattle.texml_top.specs.Start.{SameOutside};
 ghost use Rattle.texml_top.specs.Outcome.{OfOutcome, FromState};
 ghost use Rattle.texml_top.specs.Run.{EndsAs, MayEnd, FilesBlamed, SinkBlamed, FitsWords, TouchesNothing, LimitIs, WritesLate, LateAsked, WritesDocument, DocumentAsked, WritesPage, PageAsked, WholeLines, LinesBy, LinesAsked};
 ghost use Rattle.texml_top.specs.Notes.{Noted};
@@ -62,6 +63,8 @@ pub fn run<F: Files, S: Sink, N: Sink>(
     ensures notes { Noted result (N.ink notes.old) (N.ink notes.new) (N.faults notes.old) (N.faults notes.new) }
     // No file is left open.
     ensures closed { (F.shelf files.new).ids ≡ [] }
+    // Whether the files tell what they hold, and what that is, stays as it was.
+    ensures same { SameOutside (F.shelf files.old) (F.shelf files.new) }
     // Little is read ahead: no more bytes than the definitions load, and 4096 for each file that is opened.
     ensures reads { IsTrue (F.shelf files.old).tells → ReadsAsked (asked (map string_bytes words.now)) (F.shelf files.old).contents (F.shelf files.old) (F.shelf files.new) }
 {

@@ -17,5 +17,6 @@ returns-in-Ok g c =
       untouched = rw words at c.run.ensures.untouched;
       notes = c.run.ensures.notes;
       closed = c.run.ensures.closed;
+      same = c.run.ensures.same;
       little = rw words at c.run.ensures.reads;
     })
