@@ -1,130 +1,55 @@
 //! Pages of small trees.
 
-ghost use Rattle.std.specs.Prelude.{◌≡◌, ◌∷◌, [], Some, None, map, IfOk, codes};
-ghost use Rattle.texml_html.specs.Small.{plain_flags, small, small_line};
-
-use crate::small::texts;
+use crate::small::small_model;
 use crate::steps::{Step, ops};
 use bumpalo::Bump;
-use std::alloc::{AllocError, Global};
+use std::alloc::AllocError;
 use std::test::Fail;
 use texml_base::{MemorySink, SinkFail};
 use texml_build::build;
 use texml_html::write;
-use texml_model::Content;
-use texml_token::{ByteList, Bytes};
-use texml_tree::{ElementLine, ElementLines, Elements, Flags};
 use texml_xref::resolve;
 
-const PLAIN: Flags = Flags {
-    text: true,
-    block: false,
-    opens: false,
-    closes: false,
-    id: false,
-    toc: false,
-    void: false,
-};
+const P: usize = 1;
 
-const SECTION: Flags = Flags {
-    text: true,
-    block: false,
-    opens: false,
-    closes: false,
-    id: true,
-    toc: true,
-    void: false,
-};
+const LIST: usize = 3;
 
-const TITLE: usize = 1;
+const ITEM: usize = 4;
 
-const P: usize = 2;
+const TABULAR: usize = 6;
 
-const PART: usize = 3;
+const TD: usize = 8;
 
-const TOC: usize = 4;
+const BREAK: usize = 10;
 
-const HREF: usize = 1;
+const NUMBER: usize = 0;
 
-const SRC: usize = 2;
+const SPAN: usize = 1;
 
-fn line(
-    alloc: Global,
-    name: &[u8],
-    tag: &[u8],
-    flags: Flags,
-    holds: &[&[u8]],
-) -> Result<ElementLine, AllocError>
-    ensures { IfOk result (λ line. line ≡ small_line name.now tag.now None flags (map (λ t. t.now) holds.now) []) }
-{
-    Ok(ElementLine {
-        name: Bytes::from_slice(alloc, name)?,
-        tag: Bytes::from_slice(alloc, tag)?,
-        class: None,
-        flags,
-        holds: texts(alloc, holds)?,
-        attrs: ByteList::new(alloc),
-    })
-}
-
-fn paragraph(alloc: Global) -> Result<ElementLine, AllocError>
-    ensures { IfOk result (λ line. line ≡ small_line (codes "p") (codes "p") (Some (codes "wide")) plain_flags [] (codes "number" ∷ codes "href" ∷ codes "src" ∷ [])) }
-{
-    Ok(ElementLine {
-        name: Bytes::from_slice(alloc, b"p")?,
-        tag: Bytes::from_slice(alloc, b"p")?,
-        class: Some(Bytes::from_slice(alloc, b"wide")?),
-        flags: PLAIN,
-        holds: ByteList::new(alloc),
-        attrs: texts(alloc, &[b"number", b"href", b"src"])?,
-    })
-}
-
-fn lines(alloc: Global) -> Result<ElementLines, AllocError>
-    ensures { IfOk result (λ lines. lines ≡ small.lines) }
-{
-    let mut lines = ElementLines::new(alloc);
-    let parts: [&[u8]; 5] = [b"title", b"p", b"section", b"toc", b"ref"];
-    lines.push(line(alloc, b"document", b"main", PLAIN, &parts)?)?;
-    lines.push(line(alloc, b"title", b"h1", PLAIN, &[])?)?;
-    lines.push(paragraph(alloc)?)?;
-    lines.push(line(alloc, b"section", b"section", SECTION, &parts)?)?;
-    lines.push(line(alloc, b"toc", b"ul", PLAIN, &[])?)?;
-    lines.push(line(alloc, b"ref", b"a", PLAIN, &[])?)?;
-    Ok(lines)
-}
-
-#[tactic(auto, using(crate::proofs::Tables::page_is_model))]
-fn small_model(alloc: Global) -> Result<Content, AllocError> {
-    let elements = Elements {
-        lines: lines(alloc)?,
-        attributes: texts(alloc, &[b"number", b"href", b"src"])?,
-    };
-    Content::new(alloc, &elements)
-}
-
-const SAMPLE: [Step; 17] = [
-    Step::Open(TOC),
-    Step::Close(TOC),
-    Step::Open(TITLE),
-    Step::Text(b"a & b"),
-    Step::Close(TITLE),
-    Step::Ref(b"a"),
-    Step::Open(PART),
-    Step::Label(b"a", b"1"),
+const SAMPLE: [Step; 19] = [
     Step::Open(P),
-    Step::Attr(SRC, b"s"),
-    Step::Attr(HREF, b"\"<&>"),
-    Step::Attr(0, b"7"),
     Step::Text(b"\"<&>"),
-    Step::Close(P),
-    Step::Text(b"c"),
-    Step::Close(PART),
+    Step::Open(BREAK),
+    Step::Close(BREAK),
+    Step::Ref(b"a"),
     Step::Ref(b"z"),
+    Step::Close(P),
+    Step::Open(LIST),
+    Step::Open(ITEM),
+    Step::Label(b"a", b"1"),
+    Step::Attr(NUMBER, b"7"),
+    Step::Text(b"b"),
+    Step::Close(ITEM),
+    Step::Close(LIST),
+    Step::Open(TABULAR),
+    Step::Open(TD),
+    Step::Attr(SPAN, b"\"<&>"),
+    Step::Text(b"c"),
+    Step::Close(TABULAR),
 ];
 
 const PAGE: &[u8] =
-    b"<!DOCTYPE html>\n<html><head><meta charset=\"utf-8\"><title>a &amp; b</title></head><body><main id=\"x0\"><ul class=\"toc\"><li><a href=\"#x1\">\"&lt;&amp;&gt;</a></li></ul><h1>a &amp; b</h1><a href=\"#x1\">1</a><section id=\"x1\"><p class=\"wide\" href=\"&quot;&lt;&amp;>\" src=\"s\">\"&lt;&amp;&gt;</p>c</section><span class=\"undefined\">??</span></main></body></html>\n";
+    b"<!DOCTYPE html>\n<html><head><meta charset=\"utf-8\"><title>untitled</title></head><body><document id=\"x0\"><p>\"&lt;&amp;&gt;<break><a href=\"#x1\">1</a><span class=\"undefined\">??</span></p><list><item id=\"x1\"><p>b</p></item></list><tabular><tr><td span=\"&quot;&lt;&amp;>\">c</td></tr></tabular></document></body></html>\n";
 
 #[tactic(auto, using(texml_html::proofs::Known::valid_is_known))]
 #[test]
